@@ -1,0 +1,2 @@
+// Prime fields that reckon modulo their prime.
+pub mod f97;

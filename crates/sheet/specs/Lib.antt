@@ -1,0 +1,4 @@
+pub mod Shape
+pub mod Rules
+pub mod Outcomes
+pub mod Model

@@ -1,0 +1,12 @@
+pub mod Sums
+pub mod Powers
+pub mod Roots
+pub mod Series
+pub mod Values
+pub mod Interpolation
+pub mod Products
+pub mod Quotients
+pub mod Spread
+pub mod Tables
+pub mod Polynomials
+pub mod Whole

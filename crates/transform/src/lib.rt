@@ -1,0 +1,2 @@
+// Polynomials over a subgroup of 2-power order.
+pub mod theory;
