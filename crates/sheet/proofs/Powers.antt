@@ -2,12 +2,12 @@
 use mathlib.Core.Path.{_≡_, refl, sym, ap, _∙_}
 use mathlib.Core.Bool.{Bool, true, false, cond}
 use mathlib.Core.Logic.{⊎-elim}
-use Prim.Native.Nat.{ℕ, zero, suc, _+_, _-_, _*_, _^_, _≤_, _<_}
+use Prim.Native.Nat.{ℕ, zero, suc, _+_, _^_, _≤_, _<_}
 use native.Mathlib.Nat.{add-zero}
 use native.Mathlib.Omega.{arith}
 use lib.Dec.{leb}
-use lib.Pow.{pow-mono, pow-lt}
-use Rattle.std.proofs.shelf.Tests.{cond-true, cond-false, lt-leb, le-leb, cases-lt}
+use lib.Pow.{pow-mono}
+use Rattle.std.proofs.shelf.Tests.{cond-true, cond-false, lt-leb, le-leb, leb-true, cases-lt, true≢false}
 use Rattle.sheet.specs.Shape.{first, log-up, Least-power}
 
 -- a number that passes, where none before it does, is the first
@@ -34,22 +34,47 @@ exponent-below e x h k =
     (λ g. let p : 2048 ≤ 2 ^ e = pow-mono {i = 11} g in omega arith)
     (cases-lt e 11)
 
--- powers of two are in the order of their exponents
-pub exponent-order : (d e : ℕ) → 2 ^ d < 2 ^ e → d < e
-exponent-order d e h =
-    ⊎-elim (λ l. l) (λ g. let p : 2 ^ e ≤ 2 ^ d = pow-mono g in absurd (omega arith)) (cases-lt d e)
-
-found : (x e : ℕ) → x ≤ 2 ^ e → ((d : ℕ) → d < e → 2 ^ d < x) → log-up x ≡ e
+-- 2 ^ e is enough, and no power before it is
+pub log-up-is : (x e : ℕ) → x ≤ 2 ^ e → ((d : ℕ) → d < e → 2 ^ d < x) → log-up x ≡ e
 unfolding log-up first
-found zero zero h f = refl
-found (suc x) zero h f = first-is (λ d. leb (suc x) (2 ^ d)) (suc x) 0 0 (omega arith) (omega arith) (le-leb (suc x) (2 ^ 0) h) (λ d _ k. lt-leb (suc x) (2 ^ d) (f d k))
-found x (suc e) h f =
+log-up-is zero zero h f = refl
+log-up-is (suc x) zero h f = first-is (λ d. leb (suc x) (2 ^ d)) (suc x) 0 0 (omega arith) (omega arith) (le-leb (suc x) (2 ^ 0) h) (λ d _ k. lt-leb (suc x) (2 ^ d) (f d k))
+log-up-is x (suc e) h f =
     let last = f e (omega arith) in
     let more = power-above e in
     first-is (λ d. leb x (2 ^ d)) x 0 (suc e) (omega arith) (omega arith) (le-leb x (2 ^ suc e) h) (λ d _ k. lt-leb x (2 ^ d) (f d k))
 
-pub log-up-is : (x e : ℕ) → x ≤ 2 ^ e → ((d : ℕ) → d < e → 2 ^ d < x) → (log-up x ≡ e) × Least-power x e
-log-up-is x e h f = (
-  found x e h f,
-  record { enough = h; least = λ d k. ⊎-elim (λ (l : d < e). let p = f d l in absurd (omega arith)) (λ g. g) (cases-lt d e) },
-)
+-- where the number after the last passes, what is found passes and none before it does
+first-finds : (test : ℕ → Bool) (count i : ℕ) → test (i + count) ≡ true → (test (first test count i) ≡ true) × ((d : ℕ) → i ≤ d → d < first test count i → test d ≡ false)
+unfolding first
+first-finds test zero i t = (ap test (sym (add-zero i)) ∙ t, λ d a b. absurd (omega arith))
+first-finds test (suc count) i t =
+    let shift : i + 1 + count ≡ i + suc count = omega arith in
+    go (first-finds test count (i + 1) (ap test shift ∙ t)) (test i) refl
+  where
+    later : ℕ
+    later = first test count (i + 1)
+
+    go : (test later ≡ true) × ((d : ℕ) → i + 1 ≤ d → d < later → test d ≡ false) → (b : Bool) → test i ≡ b → (test (cond b i later) ≡ true) × ((d : ℕ) → i ≤ d → d < cond b i later → test d ≡ false)
+    go rest true e = (e, λ d a k. absurd (omega arith))
+    go rest false e = (
+      rest .0,
+      λ d a k. ⊎-elim (λ (q : d < i + 1). let at : d ≡ i = omega arith in ap test at ∙ e) (λ (q : i + 1 ≤ d). rest .1 d q k) (cases-lt d (i + 1)),
+    )
+
+pub log-up-least : (x : ℕ) → Least-power x (2 ^ log-up x)
+unfolding log-up
+log-up-least x =
+    let above = power-above x in
+    let start : 0 + x ≡ x = omega arith in
+    let found = first-finds (λ e. leb x (2 ^ e)) x 0 (le-leb x (2 ^ (0 + x)) (rw start (omega arith))) in
+    record {
+      exponent = first (λ e. leb x (2 ^ e)) x 0;
+      is = refl;
+      enough = leb-true x _ (found .0);
+      least = λ d k.
+          ⊎-elim
+          (λ (l : d < first (λ e. leb x (2 ^ e)) x 0). absurd (true≢false (sym (le-leb x (2 ^ d) k) ∙ found .1 d (omega arith) l)))
+          (λ g. pow-mono g)
+          (cases-lt d (first (λ e. leb x (2 ^ e)) x 0));
+    }

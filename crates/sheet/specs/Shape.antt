@@ -1,5 +1,6 @@
 -- The numbers of a sheet, and those that follow from them.
 use Prim.Native.Nat.{ℕ, zero, suc, _+_, _*_, _/_, _^_, _≤_}
+use mathlib.Core.Path.{_≡_}
 use mathlib.Core.Bool.{Bool, cond}
 use lib.Dec.{leb}
 
@@ -12,10 +13,12 @@ first test (suc count) i = cond (test i) i (first test count (i + 1))
 unfoldable pub log-up : ℕ → ℕ
 log-up x = first (λ e. leb x (2 ^ e)) x 0
 
--- 2 ^ e is at least x, and no smaller power of two is
-pub record Least-power (x e : ℕ) : Type 0 where
-  pub enough : x ≤ 2 ^ e
-  pub least : (d : ℕ) → x ≤ 2 ^ d → e ≤ d
+-- y is the least power of two that is at least x
+pub record Least-power (x y : ℕ) : Type 0 where
+  pub exponent : ℕ
+  pub is : y ≡ 2 ^ exponent
+  pub enough : x ≤ y
+  pub least : (d : ℕ) → x ≤ 2 ^ d → y ≤ 2 ^ d
 
 -- m wires, of which the first l are public, and N rows
 pub record Shape : Type 0 where

@@ -3,7 +3,7 @@ ghost use mathlib.Core.Path.{_≡_};
 ghost use Prim.Native.Nat.{_*_, _^_, _≤_, _<_};
 ghost use lib.Dec.{T};
 ghost use lib.ListN.{length};
-ghost use Rattle.sheet.specs.Shape.{log-up, Least-power};
+ghost use Rattle.sheet.specs.Shape.{log-up};
 ghost use Rattle.sheet.specs.Rules.{in-limits};
 ghost use Rattle.sheet.specs.Outcomes.{Made, Entered, Assigned, shape, first-values};
 use crate::entry::Entry;
@@ -21,7 +21,7 @@ fn log_up(x: usize) -> u32
     requires some { ⌜ 1 ≤ x ⌝ }
     requires few { ⌜ x ≤ 2048 ⌝ }
     ensures is { λ r. ⌜ r ≡ log-up x ⌝ }
-    ensures least { λ r. ⌜ Least-power x r ⌝ }
+    ensures enough { λ r. ⌜ x ≤ 2 ^ r ⌝ }
     ensures small { λ r. ⌜ r ≤ 11 ⌝ }
     ensures tight { λ r. ⌜ 2 ^ r < 2 * x ⌝ }
 {

@@ -21,4 +21,4 @@ loop-power-again c =
 pub returns : need.returns
 returns c =
     let found = log-up-is (c .args .x) (c .loop-power .e) (omega arith) (c .loop-power .inv .4) in
-    record { is = sym (found .0); least = found .1; small = omega arith; tight = omega arith }
+    record { is = sym found; enough = omega arith; small = omega arith; tight = omega arith }

@@ -1,0 +1,8 @@
+pub mod Rows
+pub mod Program
+pub mod Polynomials
+pub mod Rules
+pub mod Outcomes
+pub mod Runs
+pub mod Survey
+pub mod Law
