@@ -35,3 +35,4 @@ pub struct Head {
 
 pub mod calls;
 pub mod numbers;
+pub mod position;

@@ -11,9 +11,3 @@ pub mod Extended
 pub mod Squares
 pub mod Pairs
 pub mod Public
-pub mod Reading
-pub mod Stands
-pub mod Sound
-pub mod Replay
-pub mod Told
-pub mod Whole

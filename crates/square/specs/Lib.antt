@@ -3,6 +3,3 @@ pub mod Program
 pub mod Polynomials
 pub mod Rules
 pub mod Outcomes
-pub mod Runs
-pub mod Survey
-pub mod Law

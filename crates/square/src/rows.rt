@@ -4,7 +4,6 @@ ghost use mathlib.Core.Bool.{true, _&&_};
 ghost use Prim.Native.Nat.{_<_};
 ghost use lib.ListN.{length};
 ghost use Rattle.transform.specs.Polynomial.{coefficient};
-ghost use Rattle.sheet.specs.Rules.{inside};
 ghost use Rattle.sheet.specs.Outcomes.{shape-of};
 ghost use Rattle.square.specs.Rows.{only, position, row-sum};
 ghost use Rattle.square.specs.Rules.{all-inside, starts-with-one};
@@ -12,17 +11,11 @@ use field::field::Field;
 use sheet::entry::Entry;
 use sheet::head::Head;
 
-fn is_inside<F: Field>(head: &Head, e: Entry<F>) -> bool
-    ensures { λ r. ⌜ r ≡ inside (shape-of (now (head .entry))) (e .matrix) (e .row) (e .wire) ⌝ }
-{
-    e.matrix < 3 && (e.row as usize) < head.rows() && (e.wire as usize) < head.wires()
-}
-
 fn are_inside<F: Field>(head: &Head, used: &[Entry<F>]) -> bool
     ensures { λ r. ⌜ r ≡ all-inside (shape-of (now (head .entry))) (now (used .entry)) ⌝ }
 {
     for e in used {
-        if !is_inside(head, *e) {
+        if !head.contains(e.matrix, e.row, e.wire) {
             return false;
         }
     }

@@ -5,7 +5,7 @@ ghost use lib.Dec.{T};
 ghost use lib.ListN.{length};
 ghost use Rattle.sheet.specs.Shape.{log-up};
 ghost use Rattle.sheet.specs.Rules.{in-limits};
-ghost use Rattle.sheet.specs.Outcomes.{Made, Entered, Assigned, shape, first-values};
+ghost use Rattle.sheet.specs.Outcomes.{Made, Entered, Assigned, Numbers, shape, first-values};
 use crate::entry::Entry;
 use crate::head::Head;
 use field::field::Field;
@@ -61,6 +61,27 @@ fn reset<F: Field>(values: &mut [F])
     values[0] = F::one();
 }
 
+// The head of a shape within the limits, with no entry used.
+fn head_of(wires: usize, publics: usize, rows: usize) -> Head
+    requires wires { ⌜ wires ≤ 2048 ⌝ }
+    requires publics { ⌜ (1 ≤ publics) × (publics ≤ 256) × (publics ≤ wires) ⌝ }
+    requires rows { ⌜ rows ≤ 512 ⌝ }
+    ensures { λ r. ⌜ Numbers r (shape wires publics rows) 0 ⌝ }
+{
+    let k = power_of_two(log_up(2 * publics));
+    let log_n = log_up(k + 2 * rows);
+    Head {
+        wires,
+        publics,
+        rows,
+        k,
+        n: power_of_two(log_n),
+        log_n,
+        columns: wires + 2 * publics + rows,
+        used: 0,
+    }
+}
+
 // A sheet of m wires, l of them public, and N rows, with its first values.
 pub fn make<F: Field>(
     wires: u32,
@@ -73,26 +94,13 @@ pub fn make<F: Field>(
     if !within_limits(wires, publics, rows) {
         return Err(Refusal::OutOfLimits.at(0));
     }
-    let wires = wires as usize;
-    let publics = publics as usize;
-    let rows = rows as usize;
-    let k = power_of_two(log_up(2 * publics));
-    let log_n = log_up(k + 2 * rows);
-    let _ = subgroup_root::<F>(log_n)?;
-    if values.len() != wires {
+    let head = head_of(wires as usize, publics as usize, rows as usize);
+    let _ = subgroup_root::<F>(head.log_n)?;
+    if values.len() != head.wires {
         return Err(Refusal::WrongLength.at(0));
     }
     reset(values);
-    Ok(Head {
-        wires,
-        publics,
-        rows,
-        k,
-        n: power_of_two(log_n),
-        log_n,
-        columns: wires + 2 * publics + rows,
-        used: 0,
-    })
+    Ok(head)
 }
 
 // One entry more, in the next place of the table.
@@ -109,7 +117,7 @@ pub fn enter<F: Field>(
     if entries.len() != TABLE_SIZE {
         return Err(Refusal::WrongLength.at(0));
     }
-    if matrix >= 3 || row as usize >= head.rows || wire as usize >= head.wires {
+    if !head.contains(matrix, row, wire) {
         return Err(Refusal::OutOfRange.at(0));
     }
     let at = head.used;

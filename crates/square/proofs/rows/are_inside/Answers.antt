@@ -6,14 +6,14 @@ use Rattle.square.specs.Rules.{all-inside}
 use Rattle.square.proofs.Inside.{inside-next}
 use Rattle.square.proofs.rows.are_inside.Needs as need
 
-pub returns-then-not-is-inside : need.returns-then-not-is-inside
-returns-then-not-is-inside g c =
-    sym (inside-next (shape-of (c .args .head .now)) (c .args .used .now) (c .loop-e .e-index) (c .e-item .result) false (c .loop-e-test .taken) (c .e-item .is) (c .if-not-is-inside .ensures tt))
+pub returns-then-not-contains : need.returns-then-not-contains
+returns-then-not-contains g c =
+    sym (inside-next (shape-of (c .args .head .now)) (c .args .used .now) (c .loop-e .e-index) (c .e-item .result) false (c .loop-e-test .taken) (c .e-item .is) (c .if-not-contains .ensures tt))
     ∙ c .loop-e .inv
 
 pub loop-e-again : need.loop-e-again
 loop-e-again g c =
-    sym (inside-next (shape-of (c .args .head .now)) (c .args .used .now) (c .loop-e .e-index) (c .e-item .result) true (c .loop-e-test .taken) (c .e-item .is) (c .if-not-is-inside .ensures tt))
+    sym (inside-next (shape-of (c .args .head .now)) (c .args .used .now) (c .loop-e .e-index) (c .e-item .result) true (c .loop-e-test .taken) (c .e-item .is) (c .if-not-contains .ensures tt))
     ∙ c .loop-e .inv
 
 pub returns : need.returns

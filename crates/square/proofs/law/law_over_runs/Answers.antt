@@ -1,5 +1,0 @@
-use Rattle.square.proofs.Whole.{law}
-use Rattle.square.proofs.law.law_over_runs.Needs as need
-
-pub returns : need.returns
-returns g c = law (g .F·Field .ops)
