@@ -1,3 +1,4 @@
-// Fields known by their laws: the trait, and what it means.
+// Fields known by their laws: the traits, and what they mean.
 pub mod field;
+pub mod file_field;
 pub mod root;

@@ -1,6 +1,6 @@
 -- The laws of a field for arithmetic modulo p, once for any p.
 use mathlib.Core.Path.{_≡_, refl, sym, ap, _∙_}
-use mathlib.Core.Bool.{Bool, true, false}
+use mathlib.Core.List.{[], _∷_}
 use Prim.Native.Nat.{ℕ, _+_, _-_, _*_, _%_, _/_, _^_, _<_, _≤_}
 use native.Mathlib.Nat.{add-comm, add-assoc, add-zero, mul-comm, mul-assoc, mul-add, mul-one, mod-add-mod, add-mod-mod, add-mod, mod-eq-of-lt, mod-self, mod-add-div, pow-zero, pow-succ', add-mul-mod-self-left, add-sub-of-le, le-of-lt}
 use native.Mathlib.Numerals.{one-add, add-one}
@@ -47,6 +47,23 @@ module _ {p : ℕ} {R : Type 0} {value : R → ℕ} {O : Operations R} (m : Resi
       ∙ ap (λ (k : ℕ). (k + 1) % p) (ones-is n)
       ∙ mod-add-mod n p 1
       ∙ ap (λ (k : ℕ). k % p) (add-one n)
+
+  -- every element is the multiple of one by its number; the multiples below p are distinct, and that by p is zero
+  pub is-ones : (x : R) (n : ℕ) → value x ≡ n % p → x ≡ ones O n
+  is-ones x n e = m .only x (ones O n) (e ∙ sym (ones-is n))
+
+  pub is-number : (x : R) → x ≡ ones O (value x)
+  is-number x = is-ones x (value x) (sym (small x))
+
+  pub ones-distinct : (u v : ℕ) → u < p → v < p → ones O u ≡ ones O v → u ≡ v
+  ones-distinct u v h k e = sym (mod-eq-of-lt h) ∙ sym (ones-is u) ∙ ap value e ∙ ones-is v ∙ mod-eq-of-lt k
+
+  pub ones-vanish : ones O p ≡ zero
+  ones-vanish = m .only _ _ (ones-is p ∙ mod-self p ∙ sym (m .zero-is))
+
+  -- an element is known by its number as the one coordinate
+  pub lone-coordinate : (x y : R) → value x ∷ [] ≡ value y ∷ [] → x ≡ y
+  lone-coordinate x y e = m .only x y (cc)
 
   -- the test of equal numbers is the decision of equal elements
   pub same-is : (x y : R) → eqb (value x) (value y) ≡ decided (same-by value (m .only) x y)

@@ -7,4 +7,5 @@ pub struct F97 {
     ghost below: { value < 97 },
 }
 
+pub mod file;
 pub mod ops;

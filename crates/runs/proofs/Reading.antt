@@ -28,7 +28,8 @@ use Rattle.square.specs.Polynomials.{ω, Quotient-of, Public-of}
 use Rattle.square.specs.Rules.{all-inside, starts-with-one, extend-due, quotient-due, public-due}
 use Rattle.square.specs.Outcomes.{Extended, Divided, Published}
 use Rattle.runs.specs.Law.{Refused-with, One-polynomial, Satisfied, Unsatisfied, Public-sum, Surveyed}
-use Rattle.square.proofs.FailingRow.{decided-yes, all-hold-none, first-failing-some}
+use Rattle.field.proofs.Decided.{decided-yes}
+use Rattle.square.proofs.FailingRow.{all-hold-none, first-failing-some}
 use Rattle.square.proofs.Fits.{Fits}
 use Rattle.square.proofs.Heads.{shape-same, head-fits}
 use Rattle.square.proofs.Pairs.{pair-extended, extended-pair, pair-unique}

@@ -27,7 +27,7 @@ use Rattle.square.specs.Outcomes.{Extended}
 use Rattle.runs.specs.Runs.{Run}
 use Rattle.runs.specs.Survey.{buffers-fit, survey-due, Told}
 use Rattle.square.proofs.Heads.{shape-same}
-use Rattle.square.proofs.FailingRow.{decided-yes}
+use Rattle.field.proofs.Decided.{decided-yes}
 use Rattle.runs.proofs.Stands.{line-passed, run-stands}
 use Rattle.runs.proofs.Sound.{Sound, all-sound, fresh-sound, all-shape}
 

@@ -8,25 +8,9 @@ use Rattle.std.specs.declared.option.Option.{Option}
 use Rattle.std.specs.declared.option.Option.the-variants.{Some, None}
 use Rattle.std.proofs.shelf.Tests.{both-ways, cases-bool, cases-eq, cond-true, cond-false}
 use Rattle.field.specs.Operations.{Operations, decided}
+use Rattle.field.proofs.Decided.{decided-yes, decided-no, yes-decided, no-decided}
 use Rattle.sheet.specs.Shape.{Shape}
 use Rattle.square.specs.Rows.{first-failure, row-sum, Holds, All-hold, First-failing, failing-row}
-
--- ── A decision as a test ──
-
-pub decided-yes : {P : Type 0} (d : Dec P) → P → decided d ≡ true
-decided-yes (yes _) p = refl
-decided-yes (no h) p = absurd (h p)
-
-pub decided-no : {P : Type 0} (d : Dec P) → ¬ P → decided d ≡ false
-decided-no (yes p) h = absurd (h p)
-decided-no (no _) h = refl
-
-pub yes-decided : {P : Type 0} (d : Dec P) → decided d ≡ true → P
-yes-decided (yes p) e = p
-yes-decided (no _) e = absurd (both-ways false refl e)
-
-pub no-decided : {P : Type 0} (d : Dec P) → decided d ≡ false → ¬ P
-no-decided d e p = both-ways (decided d) e (decided-yes d p)
 
 -- ── The first failure of a test ──
 

@@ -4,6 +4,7 @@ use Prim.Native.Nat.{ℕ, zero, suc, _+_, _*_, _/_, _%_, _<_}
 use native.Mathlib.Nat.{zero-add, suc-add, mul-suc, mul-zero, mul-comm, div-add-mod, not-suc-le-zero}
 use Rattle.field.specs.Operations.{Operations, sum, power}
 use Rattle.field.specs.Laws.{Laws}
+use Rattle.field.proofs.Powers as P
 use Rattle.field.proofs.Ring.{one-mul, zero-mul}
 use Rattle.field.proofs.Solve.{⓪, ①, _⊞_, _⊠_, _⊟_, _≈_, by-ring}
 
@@ -28,17 +29,14 @@ module _ {F : Type 0} {O : Operations F} (L : Laws O) where
   power-suc x n = refl
 
   pub power-one : (x : F) → x ^^ 1 ≡ x
-  unfolding power
-  power-one x = L .ring .mul-one x
+  power-one = P.power-one (L .ring)
 
   pub power-two : (x : F) → x ^^ 2 ≡ x ⊗ x
   unfolding power
   power-two x = ap (λ t. x ⊗ t) (L .ring .mul-one x)
 
   pub power-add : (x : F) (m n : ℕ) → x ^^ (m + n) ≡ x ^^ m ⊗ x ^^ n
-  unfolding power
-  power-add x zero n = rw zero-add (sym (one-mul (L .ring) (x ^^ n)))
-  power-add x (suc m) n = rw suc-add (ap (λ t. x ⊗ t) (power-add x m n) ∙ sym (L .ring .mul-assoc x (x ^^ m) (x ^^ n)))
+  power-add = P.power-add (L .ring)
 
   pub power-mul : (x : F) (m n : ℕ) → x ^^ (m * n) ≡ (x ^^ m) ^^ n
   power-mul x m zero = rw mul-zero (power-zero x ∙ sym (power-zero (x ^^ m)))
@@ -66,10 +64,7 @@ module _ {F : Type 0} {O : Operations F} (L : Laws O) where
   zero-power (suc n) h = zero-mul (L .ring) (𝟘 ^^ n)
 
   pub mul-power : (x y : F) (n : ℕ) → (x ⊗ y) ^^ n ≡ x ^^ n ⊗ y ^^ n
-  unfolding power
-  mul-power x y zero = sym (L .ring .mul-one 𝟙)
-  mul-power x y (suc n) =
-      ap (λ t. x ⊗ y ⊗ t) (mul-power x y n) ∙ by-ring (L .ring) 4 (λ x y p q. x ⊠ y ⊠ (p ⊠ q) ≈ x ⊠ p ⊠ (y ⊠ q)) refl x y (x ^^ n) (y ^^ n)
+  mul-power = P.mul-power (L .ring)
 
   -- powers of an inverse
   pub inverse-power : (x w : F) → x ⊗ w ≡ 𝟙 → (n : ℕ) → x ^^ n ⊗ w ^^ n ≡ 𝟙

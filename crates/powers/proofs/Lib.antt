@@ -1,0 +1,3 @@
+pub mod Cycle
+pub mod Walk
+pub mod Rules
