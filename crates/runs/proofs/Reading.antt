@@ -27,13 +27,13 @@ use Rattle.square.specs.Program.{extended, U-row}
 use Rattle.square.specs.Polynomials.{ω, Quotient-of, Public-of}
 use Rattle.square.specs.Rules.{all-inside, starts-with-one, extend-due, quotient-due, public-due}
 use Rattle.square.specs.Outcomes.{Extended, Divided, Published}
-use Rattle.runs.specs.Law.{Refused-with, One-polynomial, Satisfied, Unsatisfied, Public-sum, Surveyed}
+use Rattle.runs.specs.Law.{Refused-with, One-polynomial, Satisfied, Unsatisfied, Public-sum, Reading}
 use Rattle.field.proofs.Decided.{decided-yes}
 use Rattle.square.proofs.FailingRow.{all-hold-none, first-failing-some}
 use Rattle.square.proofs.Fits.{Fits}
 use Rattle.square.proofs.Heads.{shape-same, head-fits}
 use Rattle.square.proofs.Pairs.{pair-extended, extended-pair, pair-unique}
-use Rattle.square.proofs.Public.{public-rows-same, public-coefficients}
+use Rattle.square.proofs.PublicColumns.{public-rows-same, public-coefficients}
 
 -- ── Answers, from what is due ──
 
@@ -84,13 +84,13 @@ module _ {F : Type 0} {O : Operations F} (L : Laws O) where
     starts : starts-with-one O shape values ≡ true
     starts = decided-yes (same (v 0) 𝟙) (ready .one)
 
-    extend-none : (table out : ℕ) → table ≡ table-size → out ≡ columns shape → extend-due O shape table out entries values ≡ None
+    extend-none : (table out : ℕ) → table ≡ table-size → out ≡ columns shape → extend-due O shape table (length values) out entries values ≡ None
     extend-none table out t o =
         unless-passes _ 5 _ (and-from _ _ (eq-eqb table table-size t) (and-from _ _ places-right (eq-eqb out (columns shape) o)))
         ∙ unless-passes _ 6 _ (and-from _ _ starts (ready .within))
 
     quotient-row : (table out work : ℕ) → table ≡ table-size → out ≡ n shape - 1 → work ≡ columns shape + 4 * n shape
-        → quotient-due O shape table out work entries values ≡ unless-at (failing-row O shape c v) 7 None
+        → quotient-due O shape table (length values) out work entries values ≡ unless-at (failing-row O shape c v) 7 None
     quotient-row table out work t o w =
         unless-passes _ 2 _ root-there
         ∙ unless-passes _ 5 _
@@ -98,7 +98,7 @@ module _ {F : Type 0} {O : Operations F} (L : Laws O) where
         (and-from _ _ places-right (and-from _ _ (eq-eqb out (n shape - 1) o) (eq-eqb work (columns shape + 4 * n shape) w))))
         ∙ unless-passes _ 6 _ (and-from _ _ starts (ready .within))
 
-    public-none : (out : ℕ) → out ≡ n shape → public-due O shape out values ≡ None
+    public-none : (out : ℕ) → out ≡ n shape → public-due O shape (length values) out values ≡ None
     public-none out o =
         unless-passes _ 2 _ root-there
         ∙ unless-passes _ 5 _ (and-from _ _ places-right (eq-eqb out (n shape) o))
@@ -162,7 +162,7 @@ module _ {F : Type 0} {O : Operations F} (L : Laws O) where
       → Extended O (s .head) (s .entries) (s .values) z₀ x z
       → Divided O (s .head) (s .entries) (s .values) h₀ work q h
       → Published O (s .head) (s .values) p₀ r p
-      → Surveyed O b x z q h₀ h r p
+      → Reading O b x z q h₀ h r p
 
   own-reads : (s : Sheet F) → length (s .entries) ≡ table-size → Ready (model-of s) → Reads s (model-of s)
   own-reads s table ready z₀ z h₀ h p₀ p work x q r z-size h-size work-size p-size extends divides publishes =
@@ -197,7 +197,7 @@ module _ {F : Type 0} {O : Operations F} (L : Laws O) where
       extend-ok : (x ≡ Ok tt) × (z ≡ extended O S c′ v′)
       extend-ok = granted _ _ _ x (extend-none (model-of s) ready (length (s .entries)) (length z₀) table z-size) extends
 
-      quotient : quotient-due O S (length (s .entries)) (length h₀) work used (s .values) ≡ unless-at (failing-row O S c′ v′) 7 None
+      quotient : quotient-due O S (length (s .entries)) (length (s .values)) (length h₀) work used (s .values) ≡ unless-at (failing-row O S c′ v′) 7 None
       quotient = quotient-row (model-of s) ready (length (s .entries)) (length h₀) work table h-size work-size
 
       public-ok : (r ≡ Ok tt) × Public-of O S (position O []) (s .values) p
@@ -210,7 +210,7 @@ pub survey-reads : {F : Type 0} {O : Operations F} (L : Laws O) (b : Model F) (s
     → Extended O (s .head) (s .entries) (s .values) z₀ x z
     → Divided O (s .head) (s .entries) (s .values) h₀ work q h
     → Published O (s .head) (s .values) p₀ r p
-    → Surveyed O b x z q h₀ h r p
+    → Reading O b x z q h₀ h r p
 survey-reads L b s stands one within =
     subst (λ b. Ready L b → Reads L s b) (stands-for L s b stands) (own-reads L s (stands .table))
     (record {

@@ -7,11 +7,13 @@ use lib.ListN.{length, set, take, drop, getD}
 use Rattle.std.proofs.shelf.Lists.{take-more-set, drop-more, drop-all, take-all, append-nil}
 use Rattle.std.specs.declared.result.Result.the-variants.{Ok, Err}
 use Rattle.field.specs.Operations.{Operations}
+use Rattle.sheet.specs.Shape.{n, columns}
 use Rattle.sheet.specs.Outcomes.{Answer, Numbers, shape-of}
 use Rattle.sheet.specs.Model.{Sheet}
 use Rattle.sheet.specs.declared.head.Head.{Head}
 use Rattle.sheet.specs.declared.call.Call.{Call}
-use Rattle.sheet.specs.declared.call.Call.the-variants.{Enter, Assign, Extend}
+use Rattle.sheet.specs.declared.call.Call.the-variants.{Enter, Assign, Extend, Quotient, Public}
+use Rattle.square.proofs.Heads.{shape-same, n-same, columns-same}
 use Rattle.runs.specs.Runs.{Same, Step, Run}
 
 pub below-same : (i a b c : ℕ) → i < a → c ≡ b → b ≡ a → i < c
@@ -20,21 +22,36 @@ below-same i a b c h p q = omega arith
 pub at-end : (a i : ℕ) → a ≤ i → i ≤ a → a ≡ i
 at-end a i h k = omega arith
 
--- heads of one shape have as many wires and as many columns
-numbers-same : (h h′ : Head) (used : ℕ) → Numbers h′ (shape-of h) used → (h′ .wires ≡ h .wires) × (h′ .columns ≡ h .columns)
-numbers-same h h′ used n =
-    (n .wires, omega (arith, h .«columns_is», h′ .«columns_is», n .wires, n .publics, n .rows))
+-- a head as large as another: as many wires and columns, and the same n
+pub record As-large (h h′ : Head) : Type 0 where
+  pub wires : h′ .wires ≡ h .wires
+  pub columns : h′ .columns ≡ h .columns
+  pub n : h′ .n ≡ h .n
 
-head-same : (h h′ : Head) → h′ ≡ h → (h′ .wires ≡ h .wires) × (h′ .columns ≡ h .columns)
-head-same h h′ e = (ap (λ x. x .wires) e, ap (λ x. x .columns) e)
+numbers-large : (h h′ : Head) (used : ℕ) → Numbers h′ (shape-of h) used → As-large h h′
+numbers-large h h′ used numbers =
+    let same = shape-same h′ (shape-of h) used numbers in
+    record {
+      wires = numbers .wires;
+      columns = columns-same h′ ∙ ap columns same ∙ sym (columns-same h);
+      n = n-same h′ ∙ ap n same ∙ sym (n-same h);
+    }
+
+same-large : (h h′ : Head) → h′ ≡ h → As-large h h′
+same-large h h′ e = record { wires = ap (λ x. x .wires) e; columns = ap (λ x. x .columns) e; n = ap (λ x. x .n) e }
+
+pub large-again : (a b c : Head) → As-large a b → As-large b c → As-large a c
+large-again a b c p q = record { wires = q .wires ∙ p .wires; columns = q .columns ∙ p .columns; n = q .n ∙ p .n }
 
 module _ {F : Type 0} (O : Operations F) where
   -- a call leaves the shape
-  pub step-numbers : (s : Sheet F) (c : Call F) (r : Answer) (t : Sheet F) → Step O s c r t → (t .head .wires ≡ s .head .wires) × (t .head .columns ≡ s .head .columns)
-  step-numbers s (Enter listed matrix row wire x) (Ok _) t e = numbers-same (s .head) (t .head) _ (e .outcome .1 .0)
-  step-numbers s (Enter listed matrix row wire x) (Err _) t e = head-same (s .head) (t .head) (e .outcome .1 .0)
-  step-numbers s (Assign listed wire x) r t e = head-same (s .head) (t .head) (e .head)
-  step-numbers s (Extend entries values out) r t e = head-same (s .head) (t .head) (e .head)
+  pub step-large : (s : Sheet F) (c : Call F) (r : Answer) (t : Sheet F) → Step O s c r t → As-large (s .head) (t .head)
+  step-large s (Enter listed matrix row wire x) (Ok _) t e = numbers-large (s .head) (t .head) _ (e .outcome .1 .0)
+  step-large s (Enter listed matrix row wire x) (Err _) t e = same-large (s .head) (t .head) (e .outcome .1 .0)
+  step-large s (Assign listed wire x) r t e = same-large (s .head) (t .head) (e .head)
+  step-large s (Extend entries values out) r t e = same-large (s .head) (t .head) (e .head)
+  step-large s (Quotient entries values out work) r t e = same-large (s .head) (t .head) (e .head)
+  step-large s (Public values out) r t e = same-large (s .head) (t .head) (e .head)
 
   -- one call more, answered at its place
   pub run-next : (start : Sheet F) (calls : List (Call F)) (answers : List Answer) (i : ℕ) (s : Sheet F) (c : Call F) (r : Answer) (u : Sheet F)

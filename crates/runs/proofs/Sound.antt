@@ -18,7 +18,7 @@ use Rattle.sheet.specs.Outcomes.{entry}
 use Rattle.sheet.specs.Model.{Model, fresh, with-entry, with-value, after, after-all}
 use Rattle.sheet.specs.declared.entry.Entry.{Entry}
 use Rattle.sheet.specs.declared.call.Call.{Call}
-use Rattle.sheet.specs.declared.call.Call.the-variants.{Enter, Assign, Extend}
+use Rattle.sheet.specs.declared.call.Call.the-variants.{Enter, Assign, Extend, Quotient, Public}
 use Rattle.square.specs.Rules.{all-inside}
 use Rattle.runs.proofs.Stands.{line-passed}
 
@@ -55,6 +55,8 @@ module _ {F : Type 0} (O : Operations F) where
       leb-true 1 wire (and-parts (leb 1 wire) (ltb wire (b .shape .m)) t .0))
       s
   after-sound b (Extend _ _ _) s = s
+  after-sound b (Quotient _ _ _ _) s = s
+  after-sound b (Public _ _) s = s
 
   pub all-sound : (cs : List (Call F)) (b : Model F) → Sound O b → Sound O (after-all b cs)
   all-sound [] b s = s
@@ -78,6 +80,8 @@ module _ {F : Type 0} where
   after-shape b (Enter _ _ _ _ _) = entry-shape _ _ b
   after-shape b (Assign _ wire x) = value-shape _ wire x b
   after-shape b (Extend _ _ _) = refl
+  after-shape b (Quotient _ _ _ _) = refl
+  after-shape b (Public _ _) = refl
 
   pub all-shape : (cs : List (Call F)) (b : Model F) → after-all b cs .shape ≡ b .shape
   all-shape [] b = refl

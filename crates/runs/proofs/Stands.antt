@@ -1,6 +1,6 @@
 -- Any run of calls keeps the sheet standing for the model, and enter and assign are answered as the model owes.
-use Prim.Native.Nat.{ℕ, _+_, _<_}
-use mathlib.Core.Path.{_≡_, refl, sym, ap, subst, _∙_}
+use Prim.Native.Nat.{ℕ, _+_, _-_, _*_, _<_}
+use mathlib.Core.Path.{_≡_, refl, sym, ap, ap₂, subst, _∙_}
 use mathlib.Core.Bool.{Bool, true, false, _&&_}
 use mathlib.Core.List.{List, [], _∷_, _++_}
 use native.Mathlib.Decide.{ℕ-discrete}
@@ -9,20 +9,23 @@ use borrow.Author.Tests.{eq-eqb}
 use lib.Dec.{leb, ltb, eqb}
 use lib.ListN.{length, set, take, drop, getD, length-set}
 use Rattle.std.proofs.shelf.Lists.{take-more-set, length-push, drop-more}
-use Rattle.std.proofs.shelf.Tests.{eqb-true, ne-eqb}
+use Rattle.std.proofs.shelf.Tests.{and-parts, eqb-true, ne-eqb}
 use Rattle.std.specs.declared.option.Option.the-variants.{Some, None}
 use Rattle.std.specs.declared.result.Result.the-variants.{Ok, Err}
-use Rattle.refusal.specs.Due.{Due, Decided, unless}
+use Rattle.refusal.specs.Due.{Due, Decided, unless, unless-at}
 use Rattle.field.specs.Operations.{Operations}
-use Rattle.sheet.specs.Shape.{Shape}
+use Rattle.transform.specs.Polynomial.{coefficient}
+use Rattle.sheet.specs.Shape.{Shape, log-n, n, columns}
 use Rattle.sheet.specs.Rules.{table-size, inside, enter-due, assign-due}
 use Rattle.sheet.specs.Outcomes.{Answer, Numbers, Entered, Assigned, shape-of, entry}
-use Rattle.sheet.specs.Model.{Model, Sheet, Stands, with-entry, with-value, after, after-all, owed}
+use Rattle.sheet.specs.Model.{Model, Sheet, Stands, with-entry, with-value, after, after-all}
 use Rattle.sheet.specs.declared.entry.Entry.{Entry}
 use Rattle.sheet.specs.declared.call.Call.{Call}
-use Rattle.sheet.specs.declared.call.Call.the-variants.{Enter, Assign, Extend}
-use Rattle.square.proofs.Heads.{shape-same}
-use Rattle.runs.specs.Runs.{Handed, Same, Enters, Assigns, Extends, Step, Run, Told, As-owed, All-as-owed}
+use Rattle.sheet.specs.declared.call.Call.the-variants.{Enter, Assign, Extend, Quotient, Public}
+use Rattle.square.proofs.Heads.{shape-same, n-same, columns-same}
+use Rattle.square.specs.Rows.{position, failing-row}
+use Rattle.square.specs.Rules.{all-inside, starts-with-one, extend-due, quotient-due, public-due}
+use Rattle.runs.specs.Runs.{Handed, Lent, Same, Enters, Assigns, Extends, Divides, Publishes, Step, Run, Told, owed, All-as-owed}
 
 -- what passes a line of the table of refusals
 pub line-passed : (test : Bool) (number : ℕ) (below : Due) → unless test number below ≡ None → (test ≡ true) × (below ≡ None)
@@ -43,6 +46,23 @@ module _ {X : Type 0} {stated listed : ℕ} {own own′ given given′ : List X}
   -- left as it was, it leaves the sheet's own as it was
   pub handed-same : given′ ≡ given → own′ ≡ own
   handed-same e = elim (ℕ-discrete listed stated) [ yes r ↦ h .right r .1 ∙ e ∙ h .right r .0 | no w ↦ h .wrong w .1 ]
+
+-- a lent buffer's test too
+pub lent-test : {X : Type 0} (stated listed : ℕ) (out : List X) → Lent stated listed out → eqb (length out) stated ≡ eqb listed stated
+lent-test stated listed out l =
+    elim (ℕ-discrete listed stated) [
+      | yes r ↦ eq-eqb (length out) stated (l .0 r) ∙ sym (eq-eqb listed stated r)
+      | no w ↦ ne-eqb (length out) stated (λ e. w (l .1 e)) ∙ sym (ne-eqb listed stated w)
+    ]
+
+-- lines with one test agree where what stands below them agrees
+same-line : (t t′ : Bool) (number : ℕ) (below below′ : Due) → t ≡ t′ → (t′ ≡ true → below ≡ below′) → unless t number below ≡ unless t′ number below′
+same-line t true number below below′ e h = ap (λ x. unless x number below) e ∙ h refl
+same-line t false number below below′ e h = ap (λ x. unless x number below) e
+
+told-as : (due due′ : Due) (r : Answer) (P : Unit {0} → Type 0) (Q : Type 0) → due ≡ due′ → Decided due r P Q → Told due′ r
+told-as due due′ (Ok _) P Q e d = (sym e ∙ d .0, tt)
+told-as due due′ (Err x) P Q e d = (sym e ∙ d .0, tt)
 
 -- ── One call ──
 
@@ -133,17 +153,111 @@ module _ {F : Type 0} (O : Operations F) (s t : Sheet F) (b : Model F) (st : Sta
           (some, tt),
         )
 
-  pub step-stands : (c : Call F) (r : Answer) → Step O s c r t → Stands O t (after b c) × As-owed b c r
+  -- the calls that only read: right lengths mean the sheet's own tables
+  abbrev S : Shape
+  S = shape-of (s .head)
+
+  own-entries : (listed : ℕ) (given : List (Entry F)) → Handed table-size listed (s .entries) (t .entries) given given → eqb listed table-size ≡ true
+      → take (s .head .used) given ≡ b .entries
+  own-entries listed given h e = ap (take (s .head .used)) (h .right (eqb-true listed table-size e) .0) ∙ st .used
+
+  own-values : (listed : ℕ) (given : List F) → Handed (s .head .wires) listed (s .values) (t .values) given given → eqb listed (s .head .wires) ≡ true → given ≡ b .values
+  own-values listed given h e = h .right (eqb-true listed (s .head .wires) e) .0 ∙ st .values
+
+  values-test : (listed : ℕ) (given : List F) → Handed (s .head .wires) listed (s .values) (t .values) given given → eqb (length given) (s .head .wires) ≡ eqb listed (s .head .wires)
+  values-test listed given h = handed-test h (st .places ∙ sym (st .numbers .wires))
+
+  reads-same : (es : List (Entry F)) (vs : List F) (listed-entries listed-values : ℕ)
+      → Handed table-size listed-entries (s .entries) (t .entries) es es → Handed (s .head .wires) listed-values (s .values) (t .values) vs vs → t .head ≡ s .head → Stands O t b
+  reads-same es vs _ _ he hv h = same-stands (record { head = h; entries = handed-same he refl; values = handed-same hv refl })
+
+  extends : (entries values out : ℕ) (r : Answer) → Extends O s t entries values out r → Stands O t b × Told (owed O b (Extend entries values out)) r
+  extends entries values out r e =
+      (
+        reads-same (e .given-entries) (e .given-values) entries values (e .handed-entries) (e .handed-values) (e .head),
+        told-as _ _ r _ _
+        (same-line _ (eqb entries table-size && (eqb values (S .m) && eqb out (columns S))) 5 _ _
+        (ap₂ _&&_ (handed-test (e .handed-entries) (st .table)) (ap₂ _&&_ (values-test values (e .given-values) (e .handed-values)) room))
+        below
+        ∙ ap (λ (X : Shape). extend-due O X entries values out (b .entries) (b .values)) shape-is)
+        (e .outcome),
+      )
+    where
+      room : eqb (length (e .given-out)) (columns S) ≡ eqb out (columns S)
+      room = subst (λ (n : ℕ). eqb (length (e .given-out)) n ≡ eqb out n) (columns-same (s .head)) (lent-test (s .head .columns) out (e .given-out) (e .lent))
+
+      below : (eqb entries table-size && (eqb values (S .m) && eqb out (columns S))) ≡ true
+          → unless (starts-with-one O S (e .given-values) && all-inside S (take (s .head .used) (e .given-entries))) 6 None
+          ≡ unless (starts-with-one O S (b .values) && all-inside S (b .entries)) 6 None
+      below h =
+          let p = and-parts (eqb entries table-size) _ h in
+          let q = and-parts (eqb values (S .m)) _ (p .1) in
+          ap₂ (λ vs us. unless (starts-with-one O S vs && all-inside S us) 6 None)
+          (own-values values (e .given-values) (e .handed-values) (q .0))
+          (own-entries entries (e .given-entries) (e .handed-entries) (p .0))
+
+  divides : (entries values out work : ℕ) (r : Answer) → Divides O s t entries values out work r → Stands O t b × Told (owed O b (Quotient entries values out work)) r
+  divides entries values out work r e =
+      (
+        reads-same (e .given-entries) (e .given-values) entries values (e .handed-entries) (e .handed-values) (e .head),
+        told-as _ _ r _ _
+        (ap (unless (leb (log-n S) (O .adicity)) 2)
+        (same-line _ (eqb entries table-size && (eqb values (S .m) && (eqb out (n S - 1) && eqb work (columns S + 4 * n S)))) 5 _ _
+        (ap₂ _&&_ (handed-test (e .handed-entries) (st .table)) (ap₂ _&&_ (values-test values (e .given-values) (e .handed-values)) (ap₂ _&&_ room more)))
+        below)
+        ∙ ap (λ (X : Shape). quotient-due O X entries values out work (b .entries) (b .values)) shape-is)
+        (e .outcome),
+      )
+    where
+      room : eqb (length (e .given-out)) (n S - 1) ≡ eqb out (n S - 1)
+      room = subst (λ (m : ℕ). eqb (length (e .given-out)) (m - 1) ≡ eqb out (m - 1)) (n-same (s .head)) (lent-test (s .head .n - 1) out (e .given-out) (e .lent))
+
+      size : s .head .columns + 4 * s .head .n ≡ columns S + 4 * n S
+      size = ap₂ (λ (x y : ℕ). x + 4 * y) (columns-same (s .head)) (n-same (s .head))
+
+      more : eqb (length (e .given-work)) (columns S + 4 * n S) ≡ eqb work (columns S + 4 * n S)
+      more = subst (λ (m : ℕ). eqb (length (e .given-work)) m ≡ eqb work m) size (lent-test (s .head .columns + 4 * s .head .n) work (e .given-work) (e .lent-work))
+
+      below : (eqb entries table-size && (eqb values (S .m) && (eqb out (n S - 1) && eqb work (columns S + 4 * n S)))) ≡ true
+          → unless (starts-with-one O S (e .given-values) && all-inside S (take (s .head .used) (e .given-entries))) 6
+          (unless-at (failing-row O S (position O (take (s .head .used) (e .given-entries))) (coefficient O (e .given-values))) 7 None)
+          ≡ unless (starts-with-one O S (b .values) && all-inside S (b .entries)) 6
+          (unless-at (failing-row O S (position O (b .entries)) (coefficient O (b .values))) 7 None)
+      below h =
+          let p = and-parts (eqb entries table-size) _ h in
+          let q = and-parts (eqb values (S .m)) _ (p .1) in
+          ap₂ (λ vs us. unless (starts-with-one O S vs && all-inside S us) 6 (unless-at (failing-row O S (position O us) (coefficient O vs)) 7 None))
+          (own-values values (e .given-values) (e .handed-values) (q .0))
+          (own-entries entries (e .given-entries) (e .handed-entries) (p .0))
+
+  publishes : (values out : ℕ) (r : Answer) → Publishes O s t values out r → Stands O t b × Told (owed O b (Public values out)) r
+  publishes values out r e =
+      (
+        same-stands (record { head = e .head; entries = e .entries; values = handed-same (e .handed-values) refl }),
+        told-as _ _ r _ _
+        (ap (unless (leb (log-n S) (O .adicity)) 2)
+        (same-line _ (eqb values (S .m) && eqb out (n S)) 5 _ _
+        (ap₂ _&&_ (values-test values (e .given-values) (e .handed-values)) room)
+        (λ h. ap (λ vs. unless (starts-with-one O S vs) 6 None) (own-values values (e .given-values) (e .handed-values) (and-parts (eqb values (S .m)) _ h .0))))
+        ∙ ap (λ (X : Shape). public-due O X values out (b .values)) shape-is)
+        (e .outcome),
+      )
+    where
+      room : eqb (length (e .given-out)) (n S) ≡ eqb out (n S)
+      room = subst (λ (m : ℕ). eqb (length (e .given-out)) m ≡ eqb out m) (n-same (s .head)) (lent-test (s .head .n) out (e .given-out) (e .lent))
+
+  pub step-stands : (c : Call F) (r : Answer) → Step O s c r t → Stands O t (after b c) × Told (owed O b c) r
   step-stands (Enter listed matrix row wire x) r e = enters listed matrix row wire x r e
   step-stands (Assign listed wire x) r e = assigns listed wire x r e
-  step-stands (Extend entries values out) r e =
-      (same-stands (record { head = e .head; entries = handed-same (e .handed-entries) refl; values = handed-same (e .handed-values) refl }), tt)
+  step-stands (Extend entries values out) r e = extends entries values out r e
+  step-stands (Quotient entries values out work) r e = divides entries values out work r e
+  step-stands (Public values out) r e = publishes values out r e
 
 -- ── A list of calls ──
 
 module _ {F : Type 0} (O : Operations F) where
   pub run-stands : (cs : List (Call F)) (rs : List Answer) (s t : Sheet F) (b : Model F) → Run O s cs rs t → Stands O s b
-      → Stands O t (after-all b cs) × All-as-owed b cs rs
+      → Stands O t (after-all b cs) × All-as-owed O b cs rs
   run-stands [] [] s t b d st = (same-stands O s t b st d, tt)
   run-stands [] (r ∷ rs) s t b d st = absurd d
   run-stands (c ∷ cs) [] s t b d st = absurd d

@@ -3,13 +3,13 @@ use Prim.Native.Nat.{ℕ, _+_, _*_, _-_, _<_}
 use mathlib.Core.Path.{_≡_}
 use mathlib.Core.List.{List}
 use lib.ListN.{length}
-use Rattle.std.specs.declared.result.Result.the-variants.{Ok, Err}
+use Rattle.std.specs.declared.result.Result.the-variants.{Ok}
 use Rattle.std.specs.Results.{Cases}
 use Rattle.refusal.specs.Numbers.{number-of}
 use Rattle.field.specs.Operations.{Operations, sum}
 use Rattle.field.specs.Laws.{Laws}
 use Rattle.transform.specs.Polynomial.{coefficient, Takes}
-use Rattle.sheet.specs.Shape.{Shape, k, n, stride, columns}
+use Rattle.sheet.specs.Shape.{Shape, n, columns}
 use Rattle.sheet.specs.Rules.{table-size}
 use Rattle.sheet.specs.Outcomes.{Answer, Made}
 use Rattle.sheet.specs.Model.{Model, Sheet, sheet, Stands, fresh, after-all}
@@ -17,7 +17,7 @@ use Rattle.sheet.specs.declared.head.Head.{Head}
 use Rattle.sheet.specs.declared.entry.Entry.{Entry}
 use Rattle.sheet.specs.declared.call.Call.{Call}
 use Rattle.square.specs.Rows.{position, All-hold, First-failing}
-use Rattle.square.specs.Program.{extended, U-row, W-row}
+use Rattle.square.specs.Program.{extended}
 use Rattle.square.specs.Polynomials.{ω, Pair, Column}
 use Rattle.square.specs.Outcomes.{Extended, Divided, Published}
 use Rattle.runs.specs.Runs.{Run, All-as-owed}
@@ -66,7 +66,7 @@ module _ {F : Type 0} (O : Operations F) where
       pub sums : (column : ℕ → List F) → ((j : ℕ) → j < shape .l → Column O shape c j (column j))
           → (e : ℕ) → e < n shape → sum O (shape .l) (λ j. v j ⊗ coefficient O (column j) e) ≡ coefficient O p e
 
-    pub record Surveyed (x : Answer) (z : List F) (q : Answer) (buffer h : List F) (r : Answer) (p : List F) : Type 0 where
+    pub record Reading (x : Answer) (z : List F) (q : Answer) (buffer h : List F) (r : Answer) (p : List F) : Type 0 where
       pub polynomials : (y : ℕ → F) → One-polynomial shape y
       pub extend-granted : x ≡ Ok tt
       pub extend-writes : z ≡ extended O shape c v
@@ -76,7 +76,7 @@ module _ {F : Type 0} (O : Operations F) where
       pub public-sum : Public-sum p
 
   -- For every shape that make grants and every list of calls from the fresh sheet: sheet and answers are as the model says, and extend,
-  -- quotient and public, handed the sheet's tables and buffers of the stated lengths, do what Surveyed says.
+  -- quotient and public, handed the sheet's tables and buffers of the stated lengths, do what Reading says.
   pub record After-run (b : Model F) (s : Sheet F) : Type 0 where
     pub stands : Stands O s b
     pub reads : (z₀ z h₀ h p₀ p : List F) (work : ℕ) (x q r : Answer)
@@ -84,10 +84,10 @@ module _ {F : Type 0} (O : Operations F) where
         → Extended O (s .head) (s .entries) (s .values) z₀ x z
         → Divided O (s .head) (s .entries) (s .values) h₀ work q h
         → Published O (s .head) (s .values) p₀ r p
-        → Surveyed b x z q h₀ h r p
+        → Reading b x z q h₀ h r p
 
   abbrev pub Law-over-runs : Type 0
   Law-over-runs = Laws O
       → (S : Shape) (v₀ v : List F) (h : Head) (es : List (Entry F)) (t : Sheet F) (calls : List (Call F)) (answers : List Answer)
       → Made O S v₀ (Ok h) v → length es ≡ table-size → Run O (sheet h es v) calls answers t
-      → After-run (after-all (fresh O S) calls) t × All-as-owed (fresh O S) calls answers
+      → After-run (after-all (fresh O S) calls) t × All-as-owed O (fresh O S) calls answers

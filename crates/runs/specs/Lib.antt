@@ -1,3 +1,3 @@
 pub mod Runs
-pub mod Survey
 pub mod Law
+pub mod Survey

@@ -1,54 +1,81 @@
--- A sheet made, the calls of a list, and what is then read from it.
-use Prim.Native.Nat.{ℕ}
+-- A sheet made, the calls of a list, and what is then read from it, by one call.
+use Prim.Native.Nat.{ℕ, _+_, _-_, _*_}
 use mathlib.Core.Path.{_≡_}
 use mathlib.Core.Bool.{Bool, _&&_}
 use mathlib.Core.List.{List}
 use lib.Dec.{eqb}
 use lib.ListN.{length}
 use Rattle.std.specs.declared.result.Result.{Result}
-use Rattle.std.specs.declared.result.Result.the-variants.{Ok}
 use Rattle.refusal.specs.Due.{Due, Decided, unless}
 use Rattle.refusal.specs.declared.refused.Refused.{Refused}
 use Rattle.field.specs.Operations.{Operations}
-use Rattle.transform.specs.Polynomial.{coefficient}
-use Rattle.sheet.specs.Shape.{Shape, columns}
-use Rattle.sheet.specs.Rules.{table-size, make-due}
+use Rattle.sheet.specs.Shape.{Shape, n, columns}
+use Rattle.sheet.specs.Rules.{table-size, planned, make-due}
 use Rattle.sheet.specs.Outcomes.{Answer, Numbers, first-values}
 use Rattle.sheet.specs.Model.{Model, sheet, Stands, fresh, after-all}
 use Rattle.sheet.specs.declared.head.Head.{Head}
 use Rattle.sheet.specs.declared.entry.Entry.{Entry}
 use Rattle.sheet.specs.declared.call.Call.{Call}
-use Rattle.square.specs.Rows.{position}
-use Rattle.square.specs.Program.{extended}
 use Rattle.runs.specs.Runs.{Run, All-as-owed}
+use Rattle.runs.specs.Law.{Reading}
 use Rattle.runs.specs.declared.surveyed.Surveyed.{Surveyed}
 
--- one answer a call, and the stated lengths of the entry table and of extend's result
-abbrev pub buffers-fit : Shape → (calls answers entries out : ℕ) → Bool
-buffers-fit S calls answers entries out = eqb answers calls && (eqb entries table-size && eqb out (columns S))
+-- the lengths of what is lent besides the value table: one answer a call, the entry table, the three results, and two working buffers
+pub record Lengths : Type 0 where
+  pub answers : ℕ
+  pub entries : ℕ
+  pub extended : ℕ
+  pub quotient : ℕ
+  pub public : ℕ
+  pub work : ℕ
+  pub scratch : ℕ
+
+abbrev pub buffers-fit : Shape → (calls : ℕ) → Lengths → Bool
+buffers-fit S calls x =
+    (eqb (x .answers) calls && eqb (x .entries) table-size)
+    && ((eqb (x .extended) (columns S) && (eqb (x .quotient) (n S - 1) && eqb (x .public) (n S)))
+    && (eqb (x .work) (columns S + 4 * n S) && eqb (x .scratch) (columns S + n S)))
+
+-- what survey is lent and what it writes: answers, entry table, value table, and the results of extend, quotient and public
+pub record Buffers (F : Type 0) : Type 0 where
+  pub answers : List Answer
+  pub entries : List (Entry F)
+  pub values : List F
+  pub extended : List F
+  pub quotient : List F
+  pub public : List F
 
 module _ {F : Type 0} (O : Operations F) (S : Shape) (calls : List (Call F)) where
   abbrev model : Model F
   model = after-all (fresh O S) calls
 
-  -- es₀ is the entry table that was lent; es, vs and out are the tables and extend's result afterwards
-  pub record Told (es₀ : List (Entry F)) (answers : List Answer) (s : Surveyed) (es : List (Entry F)) (vs out : List F) : Type 0 where
+  -- x are the buffers as they were lent, y as they are left
+  pub record Told (x y : Buffers F) (s : Surveyed) : Type 0 where
     -- the head as make gave it, and the run from there
     pub first : Head
     pub numbers : Numbers first S 0
-    pub run : Run O (sheet first es₀ (first-values O (S .m))) calls answers (sheet (s .head) es vs)
-    -- what stands is the model's, and enter and assign were granted exactly when the model takes them
-    pub stands : Stands O (sheet (s .head) es vs) model
-    pub owed : All-as-owed (fresh O S) calls answers
-    -- extend is granted, and writes the model's values and what their rows demand
-    pub granted : s .extend ≡ Ok tt
-    pub extends : out ≡ extended O S (position O (model .entries)) (coefficient O (model .values))
+    pub run : Run O (sheet first (x .entries) (first-values O (S .m))) calls (y .answers) (sheet (s .head) (y .entries) (y .values))
+    -- what stands is the model's, and each call was answered as the model owed
+    pub stands : Stands O (sheet (s .head) (y .entries) (y .values)) model
+    pub owed : All-as-owed O (fresh O S) calls (y .answers)
+    -- the law over runs, at what extend, quotient and public answered and wrote
+    pub reads : Reading O model (s .extend) (y .extended) (s .quotient) (x .quotient) (y .quotient) (s .public) (y .public)
 
-  abbrev pub survey-due : (answers entries values out : ℕ) → Due
-  survey-due answers entries values out = unless (buffers-fit S (length calls) answers entries out) 5 (make-due O S values)
+  abbrev pub lengths : Buffers F → (work scratch : ℕ) → Lengths
+  lengths x work scratch =
+      record {
+        answers = length (x .answers);
+        entries = length (x .entries);
+        extended = length (x .extended);
+        quotient = length (x .quotient);
+        public = length (x .public);
+        work = work;
+        scratch = scratch;
+      }
 
-  abbrev pub Outcome : List Answer → List (Entry F) → (vs out : List F) → Result Surveyed Refused → List Answer → List (Entry F) → (vs′ out′ : List F) → Type 0
-  Outcome answers es vs out r answers′ es′ vs′ out′ =
-      Decided (survey-due (length answers) (length es) (length vs) (length out)) r
-      (λ s. Told es answers′ s es′ vs′ out′)
-      ((answers′ ≡ answers) × (es′ ≡ es) × (vs′ ≡ vs) × (out′ ≡ out))
+  abbrev pub survey-due : Lengths → (values : ℕ) → Due
+  survey-due x values = planned O S (unless (buffers-fit S (length calls) x) 5 (make-due O S values))
+
+  -- work and scratch are free
+  abbrev pub Outcome : Buffers F → (work scratch : ℕ) → Result Surveyed Refused → Buffers F → Type 0
+  Outcome x work scratch r y = Decided (survey-due (lengths x work scratch) (length (x .values))) r (Told x y) (y ≡ x)

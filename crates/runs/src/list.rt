@@ -1,7 +1,6 @@
 // Lists of calls, made one after another over one sheet.
 ghost use mathlib.Core.Path.{_≡_};
-ghost use mathlib.Core.Logic.{_⊎_};
-ghost use Prim.Native.Nat.{_≤_, _<_};
+ghost use Prim.Native.Nat.{_+_, _*_, _≤_, _<_};
 ghost use lib.ListN.{length};
 ghost use Rattle.sheet.specs.Model.{sheet};
 ghost use Rattle.runs.specs.Runs.{Handed, Step, Run, Runs-stand};
@@ -14,11 +13,15 @@ use sheet::head::calls::TABLE_SIZE;
 use sheet::head::calls::assign;
 use sheet::head::calls::enter;
 use square::extend::extend;
+use square::public::public;
+use square::quotient::quotient;
 
-// How much of a spare is handed over where another length than the stated one is listed: that length where there is room, else nothing.
-fn other_length(listed: usize, room: usize) -> usize
+// How much of a buffer is handed over where a length is listed: that length where there is room for it, else nothing.
+// So where there is room for the stated length, the part has it just where it is listed.
+fn part(listed: usize, room: usize) -> usize
     ensures within { λ r. ⌜ r ≤ room ⌝ }
-    ensures other { λ r. ⌜ ((r ≡ listed) ⊎ (r ≡ 0)) ⌝ }
+    ensures fitting { λ r. ⌜ (listed ≤ room → r ≡ listed) ⌝ }
+    ensures too_long { λ r. ⌜ (room < listed → r ≡ 0) ⌝ }
 {
     if listed <= room { listed } else { 0 }
 }
@@ -32,25 +35,26 @@ fn handed<'a, T>(own: &'a [T], spare: &'a [T], stated: usize, listed: usize) -> 
     if listed == stated {
         own
     } else {
-        let n = other_length(listed, spare.len());
+        let n = part(listed, spare.len());
         &spare[0..n]
     }
 }
 
-// One call of a list. What it is handed is the sheet's own where the stated length is listed, and else a part of a spare.
+// One call of a list. Tables of the stated length are the sheet's own, others parts of the spares; results go to the scratch buffer.
 fn step<F: Field>(
     head: &mut Head,
     entries: &mut [Entry<F>],
     values: &mut [F],
-    out: &mut [F],
+    scratch: &mut [F],
+    work: &mut [F],
     spare_entries: &mut [Entry<F>],
     spare_values: &mut [F],
-    spare_out: &mut [F],
     call: Call<F>,
 ) -> Result<(), Refused>
     requires table { ⌜ length (now entries) ≡ 2048 ⌝ }
     requires places { ⌜ length (now values) ≡ now head .wires ⌝ }
-    requires room { ⌜ length (now out) ≡ now head .columns ⌝ }
+    requires room { ⌜ length (now scratch) ≡ now head .columns + now head .n ⌝ }
+    requires work { ⌜ length (now work) ≡ now head .columns + 4 * now head .n ⌝ }
     ensures { λ r. ⌜ Step ops (sheet (now (head .entry)) (now (entries .entry)) (now (values .entry))) call r (sheet (now (head .exit)) (now (entries .exit)) (now (values .exit))) ⌝ }
 {
     match call {
@@ -64,15 +68,8 @@ fn step<F: Field>(
             if listed == TABLE_SIZE {
                 enter(head, entries, matrix, row, wire, coefficient)
             } else {
-                let n = other_length(listed, spare_entries.len());
-                enter(
-                    head,
-                    &mut spare_entries[0..n],
-                    matrix,
-                    row,
-                    wire,
-                    coefficient,
-                )
+                let n = part(listed, spare_entries.len());
+                enter(head, &mut spare_entries[0..n], matrix, row, wire, coefficient)
             }
         }
         Call::Assign {
@@ -83,7 +80,7 @@ fn step<F: Field>(
             if listed == head.wires() {
                 assign(head, values, wire, value)
             } else {
-                let n = other_length(listed, spare_values.len());
+                let n = part(listed, spare_values.len());
                 assign(head, &mut spare_values[0..n], wire, value)
             }
         }
@@ -94,12 +91,28 @@ fn step<F: Field>(
         } => {
             let es = handed(&*entries, &*spare_entries, TABLE_SIZE, listed_entries);
             let vs = handed(&*values, &*spare_values, head.wires(), listed_values);
-            if listed_out == head.columns() {
-                extend(head, es, vs, out)
-            } else {
-                let n = other_length(listed_out, spare_out.len());
-                extend(head, es, vs, &mut spare_out[0..n])
-            }
+            let n = part(listed_out, scratch.len());
+            extend(head, es, vs, &mut scratch[0..n])
+        }
+        Call::Quotient {
+            entries: listed_entries,
+            values: listed_values,
+            out: listed_out,
+            work: listed_work,
+        } => {
+            let es = handed(&*entries, &*spare_entries, TABLE_SIZE, listed_entries);
+            let vs = handed(&*values, &*spare_values, head.wires(), listed_values);
+            let n = part(listed_out, scratch.len());
+            let w = part(listed_work, work.len());
+            quotient(head, es, vs, &mut scratch[0..n], &mut work[0..w])
+        }
+        Call::Public {
+            values: listed_values,
+            out: listed_out,
+        } => {
+            let vs = handed(&*values, &*spare_values, head.wires(), listed_values);
+            let n = part(listed_out, scratch.len());
+            public(head, vs, &mut scratch[0..n])
         }
     }
 }
@@ -109,30 +122,22 @@ pub(crate) fn replay<F: Field>(
     head: &mut Head,
     entries: &mut [Entry<F>],
     values: &mut [F],
-    out: &mut [F],
+    scratch: &mut [F],
+    work: &mut [F],
     spare_entries: &mut [Entry<F>],
     spare_values: &mut [F],
-    spare_out: &mut [F],
     calls: &[Call<F>],
     answers: &mut [Result<(), Refused>],
 )
     requires table { ⌜ length (now entries) ≡ 2048 ⌝ }
     requires places { ⌜ length (now values) ≡ now head .wires ⌝ }
-    requires room { ⌜ length (now out) ≡ now head .columns ⌝ }
+    requires room { ⌜ length (now scratch) ≡ now head .columns + now head .n ⌝ }
+    requires work { ⌜ length (now work) ≡ now head .columns + 4 * now head .n ⌝ }
     requires count { ⌜ length (now answers) ≡ length (now calls) ⌝ }
     ensures { λ _. ⌜ Run ops (sheet (now (head .entry)) (now (entries .entry)) (now (values .entry))) (now (calls .entry)) (now (answers .exit)) (sheet (now (head .exit)) (now (entries .exit)) (now (values .exit))) ⌝ }
 {
     for i in 0..calls.len() {
-        answers[i] = step(
-            head,
-            entries,
-            values,
-            out,
-            spare_entries,
-            spare_values,
-            spare_out,
-            calls[i],
-        );
+        answers[i] = step(head, entries, values, scratch, work, spare_entries, spare_values, calls[i]);
     }
 }
 

@@ -1,4 +1,4 @@
-// What a survey hands back: the head, and the answers of the calls that read the sheet.
+// What a survey hands back: the head, and the answers of the three calls that read the sheet.
 use refusal::refused::Refused;
 use sheet::head::Head;
 
@@ -6,4 +6,6 @@ use sheet::head::Head;
 pub struct Surveyed {
     pub head: Head,
     pub extend: Result<(), Refused>,
+    pub quotient: Result<(), Refused>,
+    pub public: Result<(), Refused>,
 }

@@ -12,7 +12,7 @@ use Rattle.sheet.specs.Outcomes.{Numbers, first-values, entry}
 use Rattle.sheet.specs.declared.head.Head.{Head}
 use Rattle.sheet.specs.declared.entry.Entry.{Entry}
 use Rattle.sheet.specs.declared.call.Call.{Call}
-use Rattle.sheet.specs.declared.call.Call.the-variants.{Enter, Assign, Extend}
+use Rattle.sheet.specs.declared.call.Call.the-variants.{Enter, Assign, Extend, Quotient, Public}
 
 pub record Model (F : Type 0) : Type 0 where
   pub shape : Shape
@@ -43,16 +43,13 @@ module _ {F : Type 0} where
   with-value None wire x b = record { shape = b .shape; entries = b .entries; values = set (b .values) wire x }
   with-value (Some _) wire x b = b
 
-  -- what an enter or assign owes by the model's own count; the other calls leave the model alone
-  abbrev pub owed : Model F → Call F → Due
-  owed b (Enter entries matrix row wire x) = enter-due (b .shape) (length (b .entries)) entries matrix row wire
-  owed b (Assign values wire x) = assign-due (b .shape) values wire
-  owed b (Extend _ _ _) = None
-
+  -- one call; those that only read leave the model alone
   abbrev pub after : Model F → Call F → Model F
   after b (Enter entries matrix row wire x) = with-entry (enter-due (b .shape) (length (b .entries)) entries matrix row wire) (entry matrix row wire x) b
   after b (Assign values wire x) = with-value (assign-due (b .shape) values wire) wire x b
   after b (Extend _ _ _) = b
+  after b (Quotient _ _ _ _) = b
+  after b (Public _ _) = b
 
   abbrev pub after-all : Model F → List (Call F) → Model F
   after-all b [] = b

@@ -3,12 +3,13 @@ use Prim.Native.Nat.{ℕ, _+_, _-_}
 use mathlib.Core.Path.{_≡_}
 use mathlib.Core.List.{List, _∷_}
 use lib.ListN.{length, set, replicate}
+use Rattle.std.specs.declared.option.Option.the-variants.{None}
 use Rattle.std.specs.declared.result.Result.{Result}
 use Rattle.refusal.specs.Due.{Decided}
 use Rattle.refusal.specs.declared.refused.Refused.{Refused}
 use Rattle.field.specs.Operations.{Operations}
 use Rattle.sheet.specs.Shape.{Shape}
-use Rattle.sheet.specs.Rules.{make-due, enter-due, assign-due}
+use Rattle.sheet.specs.Rules.{planned, make-due, enter-due, assign-due}
 use Rattle.sheet.specs.declared.head.Head.{Head}
 use Rattle.sheet.specs.declared.entry.Entry.{Entry}
 
@@ -36,6 +37,9 @@ module _ {F : Type 0} where
   -- one on wire 0, zero on every other
   abbrev pub first-values : Operations F → (m : ℕ) → List F
   first-values O m = O .one ∷ replicate (m - 1) (O .zero)
+
+  abbrev pub Planned : Operations F → Shape → Result Head Refused → Type 0
+  Planned O S r = Decided (planned O S None) r (λ h. Numbers h S 0) (Unit {0})
 
   -- h is the new head, vs the value table before and vs′ after
   abbrev pub Made : Operations F → Shape → List F → Result Head Refused → List F → Type 0

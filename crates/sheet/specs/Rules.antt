@@ -1,7 +1,6 @@
 -- Which refusal each call owes, line by line and in order.
 use Prim.Native.Nat.{ℕ}
-use mathlib.Core.Bool.{Bool, true, false, _&&_}
-use mathlib.Core.List.{List, [], _∷_}
+use mathlib.Core.Bool.{Bool, _&&_}
 use lib.Dec.{leb, ltb, eqb}
 use Rattle.std.specs.declared.option.Option.the-variants.{None}
 use Rattle.refusal.specs.Due.{Due, unless}
@@ -15,12 +14,15 @@ table-size = 2048
 abbrev pub in-limits : Shape → Bool
 in-limits S = (leb 1 (S .m) && leb (S .m) 2048) && ((leb 1 (S .l) && leb (S .l) 256) && (leb (S .l) (S .m) && leb (S .N) 512))
 
+-- granted where the shape is within the limits and the field has a root of one of the order n; else as the lines below say
+abbrev pub planned : {F : Type 0} → Operations F → Shape → Due → Due
+planned O S below =
+    unless (in-limits S) 1
+    (unless (leb (log-n S) (O .adicity)) 2 below)
+
 -- values: the length of the value table
 abbrev pub make-due : {F : Type 0} → Operations F → Shape → (values : ℕ) → Due
-make-due O S values =
-    unless (in-limits S) 1
-    (unless (leb (log-n S) (O .adicity)) 2
-    (unless (eqb values (S .m)) 5 None))
+make-due O S values = planned O S (unless (eqb values (S .m)) 5 None)
 
 abbrev pub inside : Shape → (matrix row wire : ℕ) → Bool
 inside S matrix row wire = ltb matrix 3 && (ltb row (S .N) && ltb wire (S .m))

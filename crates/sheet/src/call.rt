@@ -21,4 +21,14 @@ pub enum Call<F> {
         values: usize,
         out: usize,
     },
+    Quotient {
+        entries: usize,
+        values: usize,
+        out: usize,
+        work: usize,
+    },
+    Public {
+        values: usize,
+        out: usize,
+    },
 }

@@ -1,8 +1,8 @@
 -- The row that is reported: none just where all rows hold, and row i just where row i is the first that fails.
 use mathlib.Core.Path.{_≡_, refl, sym, ap, subst, _∙_}
-use mathlib.Core.Bool.{Bool, true, false}
+use mathlib.Core.Bool.{Bool, true, false, cond}
 use mathlib.Core.Logic.{_↔_, _⊎_, inl, inr}
-use Prim.Native.Nat.{ℕ, zero, suc, _+_, _≤_, _<_}
+use Prim.Native.Nat.{ℕ, zero, suc, _+_, _-_, _≤_, _<_}
 use native.Mathlib.Omega.{arith}
 use Rattle.std.specs.declared.option.Option.{Option}
 use Rattle.std.specs.declared.option.Option.the-variants.{Some, None}
@@ -15,6 +15,18 @@ use Rattle.square.specs.Rows.{first-failure, row-sum, Holds, All-hold, First-f
 -- ── The first failure of a test ──
 
 module _ (test : ℕ → Bool) where
+  -- one number after another, up to n
+  pub failure-next : (n i : ℕ) (b : Bool) → i < n → b ≡ test i
+      → first-failure test (n - i) i ≡ cond b (first-failure test (n - (i + 1)) (i + 1)) (Some i)
+  unfolding first-failure
+  failure-next n i b h t =
+      let more : n - i ≡ suc (n - (i + 1)) = omega arith in
+      ap (λ count. first-failure test count i) more ∙ ap (λ x. cond x (first-failure test (n - (i + 1)) (i + 1)) (Some i)) (sym t)
+
+  pub failure-end : (n i : ℕ) → n ≤ i → first-failure test (n - i) i ≡ None
+  unfolding first-failure
+  failure-end n i h = let none : n - i ≡ 0 = omega arith in ap (λ count. first-failure test count i) none
+
   -- from, from + 1, .., to - 1 pass
   abbrev Passes : (from to : ℕ) → Type 0
   Passes from to = (d : ℕ) → from ≤ d → d < to → test d ≡ true
@@ -81,7 +93,7 @@ module _ {F : Type 0} (O : Operations F) (S : Shape) (c : (matrix row wire : ℕ
   abbrev holds? : (i : ℕ) → Dec (Holds O S c z i)
   holds? i = same (row-sum O S c z 0 i ⊗ row-sum O S c z 1 i) (row-sum O S c z 2 i)
 
-  abbrev test : ℕ → Bool
+  abbrev pub test : ℕ → Bool
   test i = decided (holds? i)
 
   pub all-hold-none : All-hold O S c z → failing-row O S c z ≡ None

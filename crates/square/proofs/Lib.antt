@@ -10,4 +10,8 @@ pub mod Replaced
 pub mod Extended
 pub mod Squares
 pub mod Pairs
-pub mod Public
+pub mod LeftSums
+pub mod Horner
+pub mod PublicColumns
+pub mod Published
+pub mod Divided

@@ -74,14 +74,14 @@ module _ {F : Type 0} {O : Operations F} (L : Laws O) (S : Shape) (fits : Fits S
   -- ── The two sums of each kind of row ──
 
   module _ (z : ℕ → F) where
-    U-public-plus : (j : ℕ) → j < l → U-dot (public-plus j) z ≡ half O ⊗ (z j ⊕ z 0)
+    pub U-public-plus : (j : ℕ) → j < l → U-dot (public-plus j) z ≡ half O ⊗ (z j ⊕ z 0)
     unfolding U
     U-public-plus j h =
         dot-add L M _ _ z
         ∙ ap₂ _⊕_ (dot-only L M j (half O) z (omega arith)) (dot-only L M 0 (half O) z (omega arith))
         ∙ sym (L .ring .mul-add (half O) (z j) (z 0))
 
-    U-public-minus : (j : ℕ) → j < l → U-dot (public-minus j) z ≡ half O ⊗ (z j ⊕ neg (z 0))
+    pub U-public-minus : (j : ℕ) → j < l → U-dot (public-minus j) z ≡ half O ⊗ (z j ⊕ neg (z 0))
     unfolding U
     U-public-minus j h =
         dot-minus L M _ _ z
@@ -104,11 +104,11 @@ module _ {F : Type 0} {O : Operations F} (L : Laws O) (S : Shape) (fits : Fits S
       kept : (d : ℕ → F) → dot O M (replaced O S d) z ≡ dot O m d z
       kept d = dot-replaced L S (fits .public-wires) d z paired
 
-      U-row-minus : (i : ℕ) → U-dot (row-minus i) z ≡ sum-of z 0 i ⊕ neg (sum-of z 1 i)
+      pub U-row-minus : (i : ℕ) → U-dot (row-minus i) z ≡ sum-of z 0 i ⊕ neg (sum-of z 1 i)
       unfolding U
       U-row-minus i = kept _ ∙ dot-minus L m (c 0 i) (c 1 i) z
 
-      U-row-plus : (i : ℕ) → U-dot (row-plus i) z ≡ sum-of z 0 i ⊕ sum-of z 1 i
+      pub U-row-plus : (i : ℕ) → U-dot (row-plus i) z ≡ sum-of z 0 i ⊕ sum-of z 1 i
       unfolding U
       U-row-plus i = kept _ ∙ dot-add L m (c 0 i) (c 1 i) z
 
@@ -131,7 +131,7 @@ module _ {F : Type 0} {O : Operations F} (L : Laws O) (S : Shape) (fits : Fits S
     pub q-is : (j : ℕ) → j < l → z (q-wire S j) ≡ square O (half O ⊗ (z j ⊕ neg (z 0)))
     pub s-is : (i : ℕ) → i < N → z (s-wire S i) ≡ square O (sum-of z 0 i ⊕ neg (sum-of z 1 i))
 
-  paired-by : (z : ℕ → F) → z 0 ≡ 𝟙
+  pub paired-by : (z : ℕ → F) → z 0 ≡ 𝟙
       → ((j : ℕ) → j < l → z (p-wire S j) ≡ square O (half O ⊗ (z j ⊕ z 0)))
       → ((j : ℕ) → j < l → z (q-wire S j) ≡ square O (half O ⊗ (z j ⊕ neg (z 0))))
       → Paired O S z
@@ -236,7 +236,7 @@ module _ {F : Type 0} {O : Operations F} (L : Laws O) (S : Shape) (fits : Fits S
     abbrev Agrees : (ℕ → F) → Type 0
     Agrees z = (w : ℕ) → w < m → z w ≡ v w
 
-    same-sum : (z : ℕ → F) → Agrees z → (matrix row : ℕ) → sum-of z matrix row ≡ sum-of v matrix row
+    pub same-sum : (z : ℕ → F) → Agrees z → (matrix row : ℕ) → sum-of z matrix row ≡ sum-of v matrix row
     same-sum z agrees matrix row = dot-values L m (c matrix row) z v agrees
 
     pub holds-of : (z : ℕ → F) → Agrees z → All-hold O S c z → All-hold O S c v

@@ -22,7 +22,7 @@ module _ {F : Type 0} (O : Operations F) (h : Head) where
   abbrev pub Extended : (es : List (Entry F)) (vs out : List F) → Answer → (out′ : List F) → Type 0
   Extended es vs out r out′ =
       let used = take (h .used) es in
-      Decided (extend-due O (shape-of h) (length es) (length out) used vs) r
+      Decided (extend-due O (shape-of h) (length es) (length vs) (length out) used vs) r
       (λ _. out′ ≡ extended O (shape-of h) (position O used) (coefficient O vs))
       (out′ ≡ out)
 
@@ -31,7 +31,7 @@ module _ {F : Type 0} (O : Operations F) (h : Head) where
   Summed es vs row r =
       let used = take (h .used) es in
       let sum = λ (matrix : ℕ). row-sum O (shape-of h) (position O used) (coefficient O vs) matrix row in
-      Decided (sums-due O (shape-of h) (length es) row used vs) r
+      Decided (sums-due O (shape-of h) (length es) (length vs) row used vs) r
       (λ s. (s .a ≡ sum 0) × (s .b ≡ sum 1) × (s .c ≡ sum 2))
       (Unit {0})
 
@@ -39,13 +39,13 @@ module _ {F : Type 0} (O : Operations F) (h : Head) where
   Divided es vs out work r out′ =
       let used = take (h .used) es in
       let c = position O used in
-      Decided (quotient-due O (shape-of h) (length es) (length out) work used vs) r
+      Decided (quotient-due O (shape-of h) (length es) (length vs) (length out) work used vs) r
       (λ _. Quotient-of O (shape-of h) c (extended O (shape-of h) c (coefficient O vs)) out′)
       (out′ ≡ out)
 
   -- no entry counts in the public rows
   abbrev pub Published : (vs out : List F) → Answer → (out′ : List F) → Type 0
   Published vs out r out′ =
-      Decided (public-due O (shape-of h) (length out) vs) r
+      Decided (public-due O (shape-of h) (length vs) (length out) vs) r
       (λ _. Public-of O (shape-of h) (position O []) vs out′)
       (out′ ≡ out)

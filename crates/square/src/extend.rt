@@ -6,9 +6,10 @@ ghost use lib.ListN.{length};
 ghost use Rattle.transform.specs.Polynomial.{coefficient};
 ghost use Rattle.sheet.specs.Outcomes.{shape-of};
 ghost use Rattle.square.specs.Rows.{position};
-ghost use Rattle.square.specs.Program.{half, square, extended-at, extended};
+ghost use Rattle.square.specs.Program.{square, extended-at, extended};
 ghost use Rattle.square.specs.Rules.{all-inside};
 ghost use Rattle.square.specs.Outcomes.{Extended};
+use crate::left::public_sum;
 use crate::rows::is_consistent;
 use crate::rows::sum_of_row;
 use field::field::Field;
@@ -17,16 +18,6 @@ use refusal::refused::Refused;
 use sheet::entry::Entry;
 use sheet::head::Head;
 use sheet::head::calls::TABLE_SIZE;
-
-// 1/2, which every field has.
-fn one_half<F: Field>() -> F
-    ensures { λ r. ⌜ r ≡ half ops ⌝ }
-{
-    match F::one().add(F::one()).inverse() {
-        Some(x) => x,
-        None => unreachable(),
-    }
-}
 
 // x²
 fn squared<F: Field>(x: F) -> F
@@ -49,12 +40,7 @@ fn value_of_wire<F: Field>(head: &Head, used: &[Entry<F>], values: &[F], w: usiz
     }
     let t = w - wires;
     if t < 2 * publics {
-        let one = if t % 2 == 0 {
-            values[0]
-        } else {
-            values[0].neg()
-        };
-        return squared(one_half::<F>().mul(values[t / 2].add(one)));
+        return squared(public_sum(head, values, t));
     }
     let row = (t - 2 * publics) as u32;
     let a = sum_of_row(head, used, values, 0, row);

@@ -6,7 +6,7 @@ ghost use Rattle.sheet.specs.Outcomes.{shape-of};
 ghost use Rattle.square.specs.Outcomes.{Summed};
 use crate::row_sums::RowSums;
 use crate::rows::is_consistent;
-use crate::rows::sum_of_row;
+use crate::rows::sums_of_row;
 use field::field::Field;
 use refusal::reason::Refusal;
 use refusal::refused::Refused;
@@ -42,9 +42,5 @@ pub fn sums<F: Field>(
     if !is_consistent(head, used, values) {
         return Err(Refusal::Inconsistent.at(0));
     }
-    Ok(RowSums {
-        a: sum_of_row(head, used, values, 0, row),
-        b: sum_of_row(head, used, values, 1, row),
-        c: sum_of_row(head, used, values, 2, row),
-    })
+    Ok(sums_of_row(head, used, values, row))
 }

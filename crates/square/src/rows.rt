@@ -3,10 +3,12 @@ ghost use mathlib.Core.Path.{_≡_};
 ghost use mathlib.Core.Bool.{true, _&&_};
 ghost use Prim.Native.Nat.{_<_};
 ghost use lib.ListN.{length};
+ghost use Rattle.field.specs.Operations.{decided};
 ghost use Rattle.transform.specs.Polynomial.{coefficient};
 ghost use Rattle.sheet.specs.Outcomes.{shape-of};
-ghost use Rattle.square.specs.Rows.{only, position, row-sum};
+ghost use Rattle.square.specs.Rows.{only, position, row-sum, failing-row};
 ghost use Rattle.square.specs.Rules.{all-inside, starts-with-one};
+use crate::row_sums::RowSums;
 use field::field::Field;
 use sheet::entry::Entry;
 use sheet::head::Head;
@@ -59,4 +61,39 @@ pub(crate) fn sum_of_row<F: Field>(
         sum = with_entry(sum, *e, values, matrix, row);
     }
     sum
+}
+
+// The three sums of a row.
+pub(crate) fn sums_of_row<F: Field>(head: &Head, used: &[Entry<F>], values: &[F], row: u32) -> RowSums<F>
+    requires places { ⌜ length (now values) ≡ now head .wires ⌝ }
+    requires inside { ⌜ all-inside (shape-of (now head)) (now used) ≡ true ⌝ }
+    ensures { λ r. let sum = row-sum ops (shape-of (now (head .entry))) (position ops (now (used .entry))) (coefficient ops (now (values .entry))) in ⌜ (r .a ≡ sum 0 row) × (r .b ≡ sum 1 row) × (r .c ≡ sum 2 row) ⌝ }
+{
+    RowSums {
+        a: sum_of_row(head, used, values, 0, row),
+        b: sum_of_row(head, used, values, 1, row),
+        c: sum_of_row(head, used, values, 2, row),
+    }
+}
+
+// The first row that does not hold, if there is one.
+pub(crate) fn failing_row<F: Field>(head: &Head, used: &[Entry<F>], values: &[F]) -> Option<usize>
+    requires places { ⌜ length (now values) ≡ now head .wires ⌝ }
+    requires inside { ⌜ all-inside (shape-of (now head)) (now used) ≡ true ⌝ }
+    ensures { λ r. ⌜ r ≡ failing-row ops (shape-of (now (head .entry))) (position ops (now (used .entry))) (coefficient ops (now (values .entry))) ⌝ }
+{
+    for i in 0..head.rows() {
+        if !row_holds(head, used, values, i as u32) {
+            return Some(i);
+        }
+    }
+    None
+}
+
+fn row_holds<F: Field>(head: &Head, used: &[Entry<F>], values: &[F], row: u32) -> bool
+    requires places { ⌜ length (now values) ≡ now head .wires ⌝ }
+    requires inside { ⌜ all-inside (shape-of (now head)) (now used) ≡ true ⌝ }
+    ensures { λ r. let sum = row-sum ops (shape-of (now (head .entry))) (position ops (now (used .entry))) (coefficient ops (now (values .entry))) in ⌜ r ≡ decided (ops .same (ops .mul (sum 0 row) (sum 1 row)) (sum 2 row)) ⌝ }
+{
+    sums_of_row(head, used, values, row).hold()
 }

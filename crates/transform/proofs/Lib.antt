@@ -9,4 +9,6 @@ pub mod Quotients
 pub mod Spread
 pub mod Tables
 pub mod Polynomials
+pub mod Logarithms
+pub mod Windows
 pub mod Whole

@@ -1,30 +1,32 @@
 -- Polynomials as lists of coefficients: what holds of coefficients as functions, said of lists.
-use mathlib.Core.Path.{_≡_, refl, sym, ap, _∙_}
+use mathlib.Core.Path.{_≡_, refl, sym, ap, subst, _∙_}
 use mathlib.Core.List.{List, [], _∷_, _++_}
 use Prim.Native.Nat.{ℕ, zero, suc, _+_, _*_, _-_, _^_, _%_, _≤_, _<_}
-use native.Mathlib.Nat.{mod-lt}
+use native.Mathlib.Nat.{mod-lt, mul-comm}
 use native.Mathlib.Decide.{decLt}
 use native.Mathlib.Omega.{arith}
 use lib.ListN.{length, getD, replicate, List·getD-eq-default}
 use lib.Pow.{pow-pos, pow-add}
-use Rattle.field.specs.Operations.{Operations, power, ones}
+use Rattle.field.specs.Operations.{Operations, power, ones, root-of-order}
 use Rattle.field.specs.Laws.{Laws}
 use Rattle.field.proofs.Ring.{zero-add, neg-zero}
 use Rattle.transform.specs.Polynomial.{table, coefficient, value-at, product-at, vanishing, Root, Takes, Quotient}
+use Rattle.transform.specs.Logarithm.{log2}
 use Rattle.transform.specs.Theory.{Spreads}
-use Rattle.transform.proofs.Powers.{inverse-power, inverse-turn, power-turn}
-use Rattle.transform.proofs.Roots.{root-full, root-inverse, root-power, ones≢zero}
-use Rattle.transform.proofs.Sums.{sum-zero}
+use Rattle.transform.proofs.Logarithms.{log2-power}
+use Rattle.transform.proofs.Powers.{power-mul, inverse-power, inverse-turn, power-turn}
+use Rattle.transform.proofs.Roots.{chosen-root, root-full, root-inverse, root-power, ones≢zero}
+use Rattle.transform.proofs.Sums.{sum-zero, sum-ext}
 use Rattle.transform.proofs.Series.{Below, eval, interp, conv, mono, vanish, Multiple}
 use Rattle.transform.proofs.Values.{eval-ext, eval-first}
 use Rattle.transform.proofs.Interpolation.{interp-ext, interp-eval, eval-interp}
 use Rattle.transform.proofs.Products.{conv-ext, conv-below}
 use Rattle.transform.proofs.Quotients.{multiple-upper, multiple-values, values-multiple}
 use Rattle.transform.proofs.Spread.{interp-spread}
-use Rattle.transform.proofs.Tables.{length-table, getD-table, is-table}
+use Rattle.transform.proofs.Tables.{length-table, getD-table, is-table, table-ext}
 
 module _ {F : Type 0} {O : Operations F} (L : Laws O) where
-  open Operations O using (zero as 𝟘, one as 𝟙, add as _⊕_, mul as _⊗_, neg, inverse)
+  open Operations O using (zero as 𝟘, one as 𝟙, add as _⊕_, mul as _⊗_, neg, inverse, adicity)
 
   infixl 60 _⊕_
   infixl 70 _⊗_
@@ -46,9 +48,16 @@ module _ {F : Type 0} {O : Operations F} (L : Laws O) where
   unfolding value-at
   value-nil x = sum-zero L _
 
-  pub value-cons : (a : F) (c : List F) (x : F) → value-at O (a ∷ c) x ≡ a ⊕ x ⊗ value-at O c x
+  value-cons : (a : F) (c : List F) (x : F) → value-at O (a ∷ c) x ≡ a ⊕ x ⊗ value-at O c x
   unfolding value-at eval
   value-cons a c x = eval-first L (length c) (coefficient O (a ∷ c)) x
+
+  pub value-step : (a x v m r : F) (c : List F) → v ≡ value-at O c x → m ≡ v ⊗ x → r ≡ m ⊕ a → r ≡ value-at O (a ∷ c) x
+  value-step a x v m r c value product total =
+      total
+      ∙ ap (λ t. t ⊕ a) (product ∙ ap (λ t. t ⊗ x) value ∙ L .ring .mul-comm (value-at O c x) x)
+      ∙ L .ring .add-comm (x ⊗ value-at O c x) a
+      ∙ sym (value-cons a c x)
 
   pub product-is-conv : (u v : List F) (e : ℕ) → product-at O u v e ≡ conv O (coefficient O u) (coefficient O v) e
   unfolding product-at conv
@@ -92,6 +101,17 @@ module _ {F : Type 0} {O : Operations F} (L : Laws O) where
               ∙ eval-interp L e ω w s root inv size y r h;
         }
 
+    -- the same by values of the polynomial that has the values as its coefficients
+    pub values-take : (y : List F) → length y ≡ 2 ^ e → Takes O (2 ^ e) ω (coefficient O y) (table (2 ^ e) (λ j. s ⊗ value-at O y (w ^^ j)))
+    unfolding interp eval
+    values-take y len = subst (Takes O (2 ^ e) ω (coefficient O y)) (table-ext 𝟘 (2 ^ e) _ _ is) (interp-takes (coefficient O y))
+      where
+        is : (j : ℕ) → j < 2 ^ e → interp O (2 ^ e) w s (coefficient O y) j ≡ s ⊗ value-at O y (w ^^ j)
+        is j _ =
+            ap (λ t. s ⊗ t)
+            (sum-ext L (2 ^ e) _ _ (λ r _. ap (λ t. coefficient O y r ⊗ t) (ap (λ t. w ^^ t) (mul-comm r j) ∙ power-mul L w j r))
+            ∙ sym (value-is-eval (2 ^ e) y (w ^^ j) len))
+
     pub takes-coefficient : (y : ℕ → F) (c : List F) → Takes O (2 ^ e) ω y c → (j : ℕ) → j < 2 ^ e → coefficient O c j ≡ interp O (2 ^ e) w s y j
     takes-coefficient y c t j h =
         sym (interp-eval L e ω w s root inv size (coefficient O c) j h)
@@ -112,6 +132,16 @@ module _ {F : Type 0} {O : Operations F} (L : Laws O) where
 
   pub takes-ext : (n : ℕ) (ω : F) (y z : ℕ → F) (c : List F) → ((r : ℕ) → r < n → y r ≡ z r) → Takes O n ω y c → Takes O n ω z c
   takes-ext n ω y z c h t = record { size = t .size; values = λ r l. t .values r l ∙ h r l }
+
+  -- at the root ω that the field has chosen for the n values
+  pub chosen-take : (e : ℕ) (ω n w s : F) (y z c : List F) (places : ℕ)
+      → e ≤ adicity → length y ≡ 2 ^ e → places ≡ 2 ^ e → ω ≡ root-of-order O e → n ≡ ones O (2 ^ e) → ω ⊗ w ≡ 𝟙 → n ⊗ s ≡ 𝟙
+      → z ≡ y → c ≡ table places (λ j. s ⊗ value-at O z (w ^^ j))
+      → Takes O (length y) (root-of-order O (log2 (length y))) (coefficient O y) c
+  chosen-take e ω n w s y z c places h len room root ones inv size same is =
+      let log : log2 (length y) ≡ e = ap log2 len ∙ log2-power e in
+      rw (log, len, is, room, same)
+      (values-take e (root-of-order O e) w s (chosen-root L e h) (rw root at inv) (rw ones at size) y len)
 
   -- ── The quotient ──
 

@@ -5,18 +5,18 @@ use Prim.Native.Nat.{ℕ, zero, suc, _+_, _*_, _-_, _^_, _/_, _%_, _≤_, _<_}
 use native.Mathlib.Nat.{two-pow-succ, add-zero, add-suc}
 use native.Mathlib.Decide.{ℕ-discrete, decLt}
 use native.Mathlib.Omega.{arith}
-use lib.Pow.{pow-pos}
-use Rattle.field.specs.Operations.{Operations, sum, power, ones}
+use lib.Pow.{pow-pos, pow-add}
+use Rattle.field.specs.Operations.{Operations, sum, power, ones, root-of-order}
 use Rattle.field.specs.Laws.{Laws}
 use Rattle.field.proofs.Ring.{zero-add, one-mul, eq-of-sub}
 use Rattle.field.proofs.Solve.{①, _⊞_, _⊠_, ∸_, _≈_, by-ring}
 use Rattle.transform.specs.Polynomial.{Root}
 use Rattle.field.proofs.Cancel.{one≢zero, unit≢zero, zero-factor, mul-cancel}
 use Rattle.transform.proofs.Sums.{sum-zero, sum-suc, sum-ext, sum-split}
-use Rattle.transform.proofs.Powers.{power-suc, power-one, power-add, power-comm, square-power, one-power, inverse-power, geometric}
+use Rattle.transform.proofs.Powers.{power-suc, power-one, power-add, power-mul, power-comm, square-power, one-power, inverse-power, geometric}
 
 module _ {F : Type 0} {O : Operations F} (L : Laws O) where
-  open Operations O using (zero as 𝟘, one as 𝟙, add as _⊕_, mul as _⊗_, neg)
+  open Operations O using (zero as 𝟘, one as 𝟙, add as _⊕_, mul as _⊗_, neg, top, adicity)
 
   infixl 60 _⊕_
   infixl 70 _⊗_
@@ -61,6 +61,23 @@ module _ {F : Type 0} {O : Operations F} (L : Laws O) where
       let whole : m ≡ e + (m - e) = omega arith in
       root-power e (m - e) ω (subst (λ t. Root O t ω) whole root)
 
+  -- the roots that a field has chosen
+  pub chosen-root : (e : ℕ) → e ≤ adicity → Root O e (root-of-order O e)
+  unfolding root-of-order
+  chosen-root e h = root-below adicity e top h top-root
+    where
+      top-root : Root O adicity top
+      top-root =
+          let whole : suc (adicity - 1) ≡ adicity = omega (arith, L .adicity-two) in
+          subst (λ t. Root O t top) whole (L .top-power)
+
+  pub chosen-nest : (a d : ℕ) → a + d ≤ adicity → root-of-order O (a + d) ^^ (2 ^ d) ≡ root-of-order O a
+  unfolding root-of-order
+  chosen-nest a d h =
+      let steps : adicity - (a + d) + d ≡ adicity - a = omega arith in
+      sym (power-mul L top (2 ^ (adicity - (a + d))) (2 ^ d))
+      ∙ ap (λ t. top ^^ t) (sym (pow-add 2 (adicity - (a + d)) d) ∙ ap (λ t. 2 ^ t) steps)
+
   -- ω^n = 1
   pub root-full : (e : ℕ) (ω : F) → Root O e ω → ω ^^ (2 ^ e) ≡ 𝟙
   root-full zero ω h = power-one L ω ∙ h
@@ -94,6 +111,9 @@ module _ {F : Type 0} {O : Operations F} (L : Laws O) where
       let whole : suc (2 ^ e - 1) ≡ 2 ^ e = omega (arith, pow-pos e) in
       sym (power-suc L ω (2 ^ e - 1)) ∙ ap (λ t. ω ^^ t) whole ∙ root-full e ω root
 
+  pub root≢zero : (e : ℕ) (ω : F) → Root O e ω → ω ≢ 𝟘
+  root≢zero e ω root = unit≢zero L ω (ω ^^ (2 ^ e - 1)) (root-inverse e ω root)
+
   -- the powers below n differ
   pub root-injective : (e : ℕ) (ω : F) → Root O e ω → (i j : ℕ) → i < 2 ^ e → j < 2 ^ e → ω ^^ i ≡ ω ^^ j → i ≡ j
   root-injective e ω root i j hi hj p =
@@ -115,14 +135,20 @@ module _ {F : Type 0} {O : Operations F} (L : Laws O) where
           let split : ω ^^ a ⊗ 𝟙 ≡ ω ^^ a ⊗ ω ^^ (b - a) = L .ring .mul-one (ω ^^ a) ∙ p ∙ ap (λ t. ω ^^ t) whole ∙ power-add L ω a (b - a) in
           root-primitive e ω root (b - a) (omega arith) (omega arith) (sym (mul-cancel L (ω ^^ a) 𝟙 (ω ^^ (b - a)) (power≢zero a) split))
 
-  -- 1 + .. + 1, a power of two of them, is not 0
-  pub ones≢zero : (e : ℕ) → ones O (2 ^ e) ≢ 𝟘
+  -- 1 + .. + 1, a power of two of them, by doublings; it is not 0
+  pub ones-one : ones O 1 ≡ 𝟙
   unfolding ones
-  ones≢zero zero z = one≢zero L (sym (sum-suc L 0 (λ _. 𝟙) ∙ ap (λ t. t ⊕ 𝟙) (sum-zero L (λ _. 𝟙)) ∙ zero-add (L .ring) 𝟙) ∙ z)
+  ones-one = sum-suc L 0 (λ _. 𝟙) ∙ ap (λ t. t ⊕ 𝟙) (sum-zero L (λ _. 𝟙)) ∙ zero-add (L .ring) 𝟙
+
+  pub ones-double : (e : ℕ) → ones O (2 ^ suc e) ≡ ones O (2 ^ e) ⊕ ones O (2 ^ e)
+  unfolding ones
+  ones-double e = ap (λ t. Σ t (λ _. 𝟙)) (two-pow-succ e) ∙ sum-split L (2 ^ e) (2 ^ e) (λ _. 𝟙)
+
+  pub ones≢zero : (e : ℕ) → ones O (2 ^ e) ≢ 𝟘
+  ones≢zero zero z = one≢zero L (sym ones-one ∙ z)
   ones≢zero (suc e) z =
-      let c : F = Σ (2 ^ e) (λ _. 𝟙) in
-      let doubled : Σ (2 ^ suc e) (λ _. 𝟙) ≡ c ⊕ c = ap (λ t. Σ t (λ _. 𝟙)) (two-pow-succ e) ∙ sum-split L (2 ^ e) (2 ^ e) (λ _. 𝟙) in
-      ones≢zero e (zero-factor L (𝟙 ⊕ 𝟙) c (L .two) (by-ring (L .ring) 1 (λ c. (① ⊞ ①) ⊠ c ≈ c ⊞ c) refl c ∙ sym doubled ∙ z))
+      let c : F = ones O (2 ^ e) in
+      ones≢zero e (zero-factor L (𝟙 ⊕ 𝟙) c (L .two) (by-ring (L .ring) 1 (λ c. (① ⊞ ①) ⊠ c ≈ c ⊞ c) refl c ∙ sym (ones-double e) ∙ z))
 
   -- the sum of the n powers of x, where x^n = 1
   pub power-sum-ones : (n : ℕ) (x : F) → x ≡ 𝟙 → Σ n (λ r. x ^^ r) ≡ ones O n

@@ -79,6 +79,11 @@ module _ {F : Type 0} {O : Operations F} (L : Laws O) where
   sum-split m zero f = rw add-zero (sym (L .ring .add-zero (Σ m f)))
   sum-split m (suc n) f = rw add-suc (ap (λ t. t ⊕ f (m + n)) (sum-split m n f) ∙ L .ring .add-assoc (Σ m f) (Σ n (λ i. f (m + i))) (f (m + n)))
 
+  pub sum-first : (n : ℕ) (f : ℕ → F) → Σ (suc n) f ≡ f 0 ⊕ Σ n (λ i. f (suc i))
+  unfolding sum
+  sum-first zero f = L .ring .add-comm 𝟘 (f 0)
+  sum-first (suc n) f = ap (λ t. t ⊕ f (suc n)) (sum-first n f) ∙ L .ring .add-assoc (f 0) (Σ n (λ i. f (suc i))) (f (suc n))
+
   -- by blocks of m terms
   pub sum-blocks : (n m : ℕ) (f : ℕ → F) → Σ (n * m) f ≡ Σ n (λ i. Σ m (λ j. f (i * m + j)))
   unfolding sum

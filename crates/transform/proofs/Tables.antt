@@ -23,3 +23,6 @@ getD-table (suc n) f d (suc i) h = getD-table n (λ i. f (suc i)) d i (le-of-suc
 pub is-table : {X : Type 0} (d : X) (xs : List X) (n : ℕ) (f : ℕ → X) → length xs ≡ n → ((i : ℕ) → i < n → getD xs i d ≡ f i) → xs ≡ table n f
 is-table d xs n f size h =
     ext-getD d xs (table n f) (size ∙ sym (length-table n f)) (λ i k. let below : i < n = omega arith in h i below ∙ sym (getD-table n f d i below))
+
+pub table-ext : {X : Type 0} (d : X) (n : ℕ) (f g : ℕ → X) → ((i : ℕ) → i < n → f i ≡ g i) → table n f ≡ table n g
+table-ext d n f g h = is-table d (table n f) n g (length-table n f) (λ i k. getD-table n f d i k ∙ h i k)

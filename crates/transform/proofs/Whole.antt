@@ -1,28 +1,15 @@
 -- The theory of specs/Theory.antt, for every field.
-use mathlib.Core.Path.{_≡_, subst}
-use Prim.Native.Nat.{ℕ, suc, _-_, _^_}
-use native.Mathlib.Omega.{arith}
+use Prim.Native.Nat.{ℕ, _^_}
 use lib.Pow.{pow-pos}
-use Rattle.field.specs.Operations.{Operations, power, root-of-order}
+use Rattle.field.specs.Operations.{Operations, power}
 use Rattle.field.specs.Laws.{Laws}
 use Rattle.transform.specs.Polynomial.{Root}
-use Rattle.transform.specs.Theory.{Has-roots, Orthogonal, Theory}
+use Rattle.transform.specs.Theory.{Orthogonal, Theory}
 use Rattle.transform.proofs.Powers.{power-turn}
-use Rattle.transform.proofs.Roots.{root-below, root-full, root-primitive, ones≢zero, power-sum-zero}
+use Rattle.transform.proofs.Roots.{chosen-root, chosen-nest, root-full, root-primitive, ones≢zero, power-sum-zero}
 use Rattle.transform.proofs.Polynomials.{takes-exists, takes-unique, quotient-upper, quotient-values, values-quotient, takes-spread}
 
 module _ {F : Type 0} {O : Operations F} (L : Laws O) where
-  open Operations O using (top, adicity)
-
-  top-root : Root O adicity top
-  top-root =
-      let whole : suc (adicity - 1) ≡ adicity = omega (arith, L .adicity-two) in
-      subst (λ t. Root O t top) whole (L .top-power)
-
-  has-roots : Has-roots O
-  unfolding root-of-order
-  has-roots e h = root-below L adicity e top h top-root
-
   orthogonal : (e : ℕ) (ω : F) → Root O e ω → Orthogonal O e ω
   orthogonal e ω root =
       record {
@@ -35,7 +22,8 @@ module _ {F : Type 0} {O : Operations F} (L : Laws O) where
   pub theory : Theory O
   theory =
       record {
-        roots = has-roots;
+        roots = chosen-root L;
+        nest = chosen-nest L;
         orthogonal = orthogonal;
         interpolates = λ e ω root. record { exists = takes-exists L e ω root; once = takes-unique L e ω root };
         divides = λ e ω root u w su sw.

@@ -1,2 +1,4 @@
 pub mod Polynomial
 pub mod Theory
+pub mod Logarithm
+pub mod Outcomes

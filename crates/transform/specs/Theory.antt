@@ -16,6 +16,10 @@ module _ {F : Type 0} (O : Operations F) where
   abbrev pub Has-roots : Type 0
   Has-roots = (e : ℕ) → e ≤ adicity → Root O e (root-of-order O e)
 
+  -- and each chosen root is a power of those of larger orders
+  abbrev pub Roots-nest : Type 0
+  Roots-nest = (a d : ℕ) → a + d ≤ adicity → power O (root-of-order O (a + d)) (2 ^ d) ≡ root-of-order O a
+
   -- the powers of ω^t, over one turn, cancel out unless ω^t is one; and a power of two is not zero in the field
   pub record Orthogonal (e : ℕ) (ω : F) : Type 0 where
     pub apart : (t : ℕ) → 0 < t → t < 2 ^ e → power O ω t ≢ 𝟙
@@ -45,6 +49,7 @@ module _ {F : Type 0} (O : Operations F) where
   -- the whole theory, at every root of one of 2-power order
   pub record Theory : Type 0 where
     pub roots : Has-roots
+    pub nest : Roots-nest
     pub orthogonal : (e : ℕ) (ω : F) → Root O e ω → Orthogonal e ω
     pub interpolates : (e : ℕ) (ω : F) → Root O e ω → Interpolates e ω
     pub divides : (e : ℕ) (ω : F) → Root O e ω → (u w : List F) → length u ≡ 2 ^ e → length w ≡ 2 ^ e → Divides e ω u w

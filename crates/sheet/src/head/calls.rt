@@ -5,7 +5,7 @@ ghost use lib.Dec.{T};
 ghost use lib.ListN.{length};
 ghost use Rattle.sheet.specs.Shape.{log-up};
 ghost use Rattle.sheet.specs.Rules.{in-limits};
-ghost use Rattle.sheet.specs.Outcomes.{Made, Entered, Assigned, Numbers, shape, first-values};
+ghost use Rattle.sheet.specs.Outcomes.{Planned, Made, Entered, Assigned, Numbers, shape, first-values};
 use crate::entry::Entry;
 use crate::head::Head;
 use field::field::Field;
@@ -82,20 +82,23 @@ fn head_of(wires: usize, publics: usize, rows: usize) -> Head
     }
 }
 
-// A sheet of m wires, l of them public, and N rows, with its first values.
-pub fn make<F: Field>(
-    wires: u32,
-    publics: u32,
-    rows: u32,
-    values: &mut [F],
-) -> Result<Head, Refused>
-    ensures { λ r. ⌜ Made ops (shape wires publics rows) (now (values .entry)) r (now (values .exit)) ⌝ }
+// The head of a sheet of m wires, l of them public, and N rows, before there are values.
+pub fn plan<F: Field>(wires: u32, publics: u32, rows: u32) -> Result<Head, Refused>
+    ensures { λ r. ⌜ Planned ops (shape wires publics rows) r ⌝ }
 {
     if !within_limits(wires, publics, rows) {
         return Err(Refusal::OutOfLimits.at(0));
     }
     let head = head_of(wires as usize, publics as usize, rows as usize);
     let _ = subgroup_root::<F>(head.log_n)?;
+    Ok(head)
+}
+
+// The same with its value table: one on wire 0, zero on every other.
+pub fn make<F: Field>(wires: u32, publics: u32, rows: u32, values: &mut [F]) -> Result<Head, Refused>
+    ensures { λ r. ⌜ Made ops (shape wires publics rows) (now (values .entry)) r (now (values .exit)) ⌝ }
+{
+    let head = plan::<F>(wires, publics, rows)?;
     if values.len() != head.wires {
         return Err(Refusal::WrongLength.at(0));
     }

@@ -1,13 +1,15 @@
-use mathlib.Core.Path.{_≡_, sym, ap, _∙_}
-use Prim.Native.Nat.{_-_, _*_, _/_}
+use mathlib.Core.Path.{_≡_, sym, _∙_}
+use mathlib.Core.List.{[]}
+use Prim.Native.Nat.{_-_, _*_}
 use native.Mathlib.Omega.{arith}
 use Rattle.std.proofs.shelf.Lists.{getD-read}
 use Rattle.transform.specs.Polynomial.{coefficient}
 use Rattle.sheet.specs.Outcomes.{shape-of}
 use Rattle.square.specs.Rows.{position}
-use Rattle.square.proofs.Extended.{extended-own, extended-plus, extended-minus, extended-row}
+use Rattle.square.proofs.Extended.{extended-own, extended-row}
+use Rattle.square.proofs.Heads.{head-fits}
+use Rattle.square.proofs.LeftSums.{extended-public}
 use Rattle.square.proofs.extend.value_of_wire.Needs as need
-use Rattle.square.proofs.extend.value_of_wire.Needs.{then-t-eq0, else-t-eq0}
 
 pub returns-then-w-wires : need.returns-then-w-wires
 returns-then-w-wires g c =
@@ -20,20 +22,9 @@ pub returns-then-t-publics : need.returns-then-t-publics
 returns-then-t-publics g c =
     let O = g .F·Field .ops in
     let h = c .args .head .now in
-    let vs = c .args .values .now in
     let place : c .args .w - c .wires-wires .result ≡ c .args .w - h .wires = omega arith in
-    let half-place = ap (λ t. t / 2) place in
-    let read = getD-read vs _ _ (omega arith) (c .index-values-t .is) (O .zero) in
-    elim (c .if-t-eq0 .came) [
-      | then-t-eq0 w ↦
-          let one = getD-read vs 0 _ (omega arith) (w .index-values-0 .is) (O .zero) in
-          let is = extended-plus O (shape-of h) (position O (c .args .used .now)) (coefficient O vs) (c .args .w) (omega arith) (omega arith) (omega (arith, w .if-t-eq0 .taken)) in
-          cc (w .one-is)
-      | else-t-eq0 w ↦
-          let one = getD-read vs 0 _ (omega arith) (w .index-values-0-else-t-eq0 .is) (O .zero) in
-          let is = extended-minus O (shape-of h) (position O (c .args .used .now)) (coefficient O vs) (c .args .w) (omega arith) (omega arith) (λ e. w .if-t-eq0 .left (omega arith)) in
-          cc (w .one-is, w .neg-one .ensures)
-    ]
+    let is = extended-public (g .F·Field·met .laws) (shape-of h) (head-fits h) (position O (c .args .used .now)) (position O []) (coefficient O (c .args .values .now)) (c .args .w) (omega arith) (omega arith) in
+    cc
 
 pub returns : need.returns
 returns g c =
