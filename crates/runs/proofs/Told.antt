@@ -1,16 +1,16 @@
 -- What survey tells: a made sheet stands for the fresh model, and after the run the law holds of what the three calls write.
 use Prim.Native.Nat.{ℕ, suc, _+_, _-_, _*_, _≤_}
 use mathlib.Core.Path.{_≡_, refl, sym, ap, subst, _∙_}
-use mathlib.Core.Bool.{Bool, true, _&&_}
+use mathlib.Core.Bool.{Bool, true, false, _&&_}
 use mathlib.Core.List.{List}
 use native.Mathlib.Omega.{arith}
 use lib.Dec.{leb, eqb}
 use lib.ListN.{length, take, length-replicate}
 use Rattle.std.proofs.shelf.Tests.{and-parts, eqb-true, leb-true}
-use Rattle.std.specs.declared.option.Option.the-variants.{None}
+use Rattle.std.specs.declared.option.Option.the-variants.{Some, None}
 use Rattle.refusal.specs.Due.{Due, unless}
 use Rattle.field.specs.Operations.{Operations}
-use Rattle.sheet.specs.Shape.{Shape, n, columns}
+use Rattle.sheet.specs.Shape.{Shape, log-n, n, columns}
 use Rattle.sheet.specs.Rules.{table-size, in-limits, planned, make-due}
 use Rattle.sheet.specs.Outcomes.{Numbers, first-values}
 use Rattle.sheet.specs.Model.{sheet, Stands, fresh}
@@ -55,12 +55,24 @@ module _ {F : Type 0} (O : Operations F) (S : Shape) where
   pub planned-passes : (below : Due) → planned O S None ≡ None → planned O S below ≡ below
   planned-passes below h =
       let limits = line-passed (in-limits S) 1 _ h in
-      let root = line-passed (leb _ (O .adicity)) 2 _ (limits .1) in
-      ap (λ t. unless t 1 _) (limits .0) ∙ ap (λ t. unless t 2 below) (root .0)
+      let root = line-passed (leb (log-n S) (O .adicity)) 2 None (limits .1) in
+      ap (λ t. unless t 1 (unless (leb (log-n S) (O .adicity)) 2 below)) (limits .0) ∙ ap (λ t. unless t 2 below) (root .0)
+
+  pub planned-refused : (below : Due) (number place : ℕ) → planned O S None ≡ Some (number, place) → planned O S below ≡ Some (number, place)
+  planned-refused below number place h = go (in-limits S) (leb (log-n S) (O .adicity)) h
+    where
+      go : (a b : Bool) → unless a 1 (unless b 2 None) ≡ Some (number, place) → unless a 1 (unless b 2 below) ≡ Some (number, place)
+      go true true e = let z : _≡_ {A = ℕ} 0 1 = cc in absurd (omega arith)
+      go true false e = e
+      go false b e = e
 
   pub fit-next : (calls : List (Call F)) (x : Lengths) (values : ℕ) → planned O S None ≡ None → true ≡ buffers-fit S (length calls) x
       → survey-due O S calls x values ≡ make-due O S values
   fit-next calls x values p h = planned-passes _ p ∙ ap (λ t. unless t 5 (make-due O S values)) (sym h)
+
+  pub fit-refused : (calls : List (Call F)) (x : Lengths) (values : ℕ) → planned O S None ≡ None → false ≡ buffers-fit S (length calls) x
+      → survey-due O S calls x values ≡ Some (5, 0)
+  fit-refused calls x values p h = planned-passes _ p ∙ ap (λ t. unless t 5 (make-due O S values)) (sym h)
 
 -- ── A made sheet ──
 

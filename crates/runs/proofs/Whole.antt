@@ -32,14 +32,14 @@ law {F} O L S v₀ v h es t calls answers made table run =
 
 -- ── Survey: make, the list, and the three calls that read ──
 
-pub told : {F : Type 0} {O : Operations F} (L : Laws O) (S : Shape) (calls : List (Call F)) (x y : Buffers F) (s : Surveyed) (first : Head) (v₀ : List F) (work scratch : ℕ)
-    → make-due O S (length v₀) ≡ None → Numbers first S 0 → Fit S (length calls) (lengths O S calls x work scratch)
+pub told : {F : Type 0} {O : Operations F} (L : Laws O) (S : Shape) (calls : List (Call F)) (x y : Buffers F) (s : Surveyed) (first : Head) (v₀ : List F) (work work′ scratch : ℕ)
+    → make-due O S (length v₀) ≡ None → Numbers first S 0 → Fit S (length calls) (lengths O S calls x work scratch) → work′ ≡ work
     → Run O (sheet first (x .entries) (first-values O (S .m))) calls (y .answers) (sheet (s .head) (y .entries) (y .values))
     → Extended O (s .head) (y .entries) (y .values) (x .extended) (s .extend) (y .extended)
-    → Divided O (s .head) (y .entries) (y .values) (x .quotient) work (s .quotient) (y .quotient)
+    → Divided O (s .head) (y .entries) (y .values) (x .quotient) work′ (s .quotient) (y .quotient)
     → Published O (s .head) (y .values) (x .public) (s .public) (y .public)
     → Told O S calls x y s
-told {O} L S calls x y s first v₀ work scratch due numbers fit run extends divides publishes =
+told {O} L S calls x y s first v₀ work work′ scratch due numbers fit same-work run extends divides publishes =
     let whole = law O L S v₀ (first-values O (S .m)) first (x .entries) (sheet (s .head) (y .entries) (y .values)) calls (y .answers) (due, (numbers, refl)) (fit .entries) run in
     let same = sym (all-shape calls (fresh O S)) in
     record {
@@ -48,7 +48,7 @@ told {O} L S calls x y s first v₀ work scratch due numbers fit run extends div
       run = run;
       stands = whole .0 .stands;
       owed = whole .1;
-      reads = whole .0 .reads (x .extended) (y .extended) (x .quotient) (y .quotient) (x .public) (y .public) work (s .extend) (s .quotient) (s .public)
-        (fit .extended ∙ ap columns same) (fit .quotient ∙ ap (λ T. n T - 1) same) (fit .work ∙ ap (λ T. columns T + 4 * n T) same) (fit .public ∙ ap n same)
+      reads = whole .0 .reads (x .extended) (y .extended) (x .quotient) (y .quotient) (x .public) (y .public) work′ (s .extend) (s .quotient) (s .public)
+        (fit .extended ∙ ap columns same) (fit .quotient ∙ ap (λ T. n T - 1) same) (same-work ∙ fit .work ∙ ap (λ T. columns T + 4 * n T) same) (fit .public ∙ ap n same)
         extends divides publishes;
     }
