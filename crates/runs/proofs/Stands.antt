@@ -172,16 +172,15 @@ module _ {F : Type 0} (O : Operations F) (s t : Sheet F) (b : Model F) (st : Sta
   reads-same es vs _ _ he hv h = same-stands (record { head = h; entries = handed-same he refl; values = handed-same hv refl })
 
   extends : (entries values out : ℕ) (r : Answer) → Extends O s t entries values out r → Stands O t b × Told (owed O b (Extend entries values out)) r
-  extends entries values out r e =
-      (
-        reads-same (e .given-entries) (e .given-values) entries values (e .handed-entries) (e .handed-values) (e .head),
-        told-as _ _ r _ _
+  extends entries values out r e = (
+    reads-same (e .given-entries) (e .given-values) entries values (e .handed-entries) (e .handed-values) (e .head),
+    told-as _ _ r _ _
         (same-line _ (eqb entries table-size && (eqb values (S .m) && eqb out (columns S))) 5 _ _
         (ap₂ _&&_ (handed-test (e .handed-entries) (st .table)) (ap₂ _&&_ (values-test values (e .given-values) (e .handed-values)) room))
         below
         ∙ ap (λ (X : Shape). extend-due O X entries values out (b .entries) (b .values)) shape-is)
         (e .outcome),
-      )
+  )
     where
       room : eqb (length (e .given-out)) (columns S) ≡ eqb out (columns S)
       room = subst (λ (n : ℕ). eqb (length (e .given-out)) n ≡ eqb out n) (columns-same (s .head)) (lent-test (s .head .columns) out (e .given-out) (e .lent))
@@ -197,17 +196,16 @@ module _ {F : Type 0} (O : Operations F) (s t : Sheet F) (b : Model F) (st : Sta
           (own-entries entries (e .given-entries) (e .handed-entries) (p .0))
 
   divides : (entries values out work : ℕ) (r : Answer) → Divides O s t entries values out work r → Stands O t b × Told (owed O b (Quotient entries values out work)) r
-  divides entries values out work r e =
-      (
-        reads-same (e .given-entries) (e .given-values) entries values (e .handed-entries) (e .handed-values) (e .head),
-        told-as _ _ r _ _
+  divides entries values out work r e = (
+    reads-same (e .given-entries) (e .given-values) entries values (e .handed-entries) (e .handed-values) (e .head),
+    told-as _ _ r _ _
         (ap (unless (leb (log-n S) (O .adicity)) 2)
         (same-line _ (eqb entries table-size && (eqb values (S .m) && (eqb out (n S - 1) && eqb work (columns S + 4 * n S)))) 5 _ _
         (ap₂ _&&_ (handed-test (e .handed-entries) (st .table)) (ap₂ _&&_ (values-test values (e .given-values) (e .handed-values)) (ap₂ _&&_ room more)))
         below)
         ∙ ap (λ (X : Shape). quotient-due O X entries values out work (b .entries) (b .values)) shape-is)
         (e .outcome),
-      )
+  )
     where
       room : eqb (length (e .given-out)) (n S - 1) ≡ eqb out (n S - 1)
       room = subst (λ (m : ℕ). eqb (length (e .given-out)) (m - 1) ≡ eqb out (m - 1)) (n-same (s .head)) (lent-test (s .head .n - 1) out (e .given-out) (e .lent))
@@ -231,17 +229,16 @@ module _ {F : Type 0} (O : Operations F) (s t : Sheet F) (b : Model F) (st : Sta
           (own-entries entries (e .given-entries) (e .handed-entries) (p .0))
 
   publishes : (values out : ℕ) (r : Answer) → Publishes O s t values out r → Stands O t b × Told (owed O b (Public values out)) r
-  publishes values out r e =
-      (
-        same-stands (record { head = e .head; entries = e .entries; values = handed-same (e .handed-values) refl }),
-        told-as _ _ r _ _
+  publishes values out r e = (
+    same-stands (record { head = e .head; entries = e .entries; values = handed-same (e .handed-values) refl }),
+    told-as _ _ r _ _
         (ap (unless (leb (log-n S) (O .adicity)) 2)
         (same-line _ (eqb values (S .m) && eqb out (n S)) 5 _ _
         (ap₂ _&&_ (values-test values (e .given-values) (e .handed-values)) room)
         (λ h. ap (λ vs. unless (starts-with-one O S vs) 6 None) (own-values values (e .given-values) (e .handed-values) (and-parts (eqb values (S .m)) _ h .0))))
         ∙ ap (λ (X : Shape). public-due O X values out (b .values)) shape-is)
         (e .outcome),
-      )
+  )
     where
       room : eqb (length (e .given-out)) (n S) ≡ eqb out (n S)
       room = subst (λ (m : ℕ). eqb (length (e .given-out)) m ≡ eqb out m) (n-same (s .head)) (lent-test (s .head .n) out (e .given-out) (e .lent))

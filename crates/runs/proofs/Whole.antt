@@ -49,6 +49,6 @@ told {O} L S calls x y s first v₀ work work′ scratch due numbers fit same-wo
       stands = whole .0 .stands;
       owed = whole .1;
       reads = whole .0 .reads (x .extended) (y .extended) (x .quotient) (y .quotient) (x .public) (y .public) work′ (s .extend) (s .quotient) (s .public)
-        (fit .extended ∙ ap columns same) (fit .quotient ∙ ap (λ T. n T - 1) same) (same-work ∙ fit .work ∙ ap (λ T. columns T + 4 * n T) same) (fit .public ∙ ap n same)
-        extends divides publishes;
+          (fit .extended ∙ ap columns same) (fit .quotient ∙ ap (λ T. n T - 1) same) (same-work ∙ fit .work ∙ ap (λ T. columns T + 4 * n T) same) (fit .public ∙ ap n same)
+          extends divides publishes;
     }

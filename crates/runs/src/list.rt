@@ -69,7 +69,14 @@ fn step<F: Field>(
                 enter(head, entries, matrix, row, wire, coefficient)
             } else {
                 let n = part(listed, spare_entries.len());
-                enter(head, &mut spare_entries[0..n], matrix, row, wire, coefficient)
+                enter(
+                    head,
+                    &mut spare_entries[0..n],
+                    matrix,
+                    row,
+                    wire,
+                    coefficient,
+                )
             }
         }
         Call::Assign {
@@ -137,7 +144,16 @@ pub(crate) fn replay<F: Field>(
     ensures { λ _. ⌜ Run ops (sheet (now (head .entry)) (now (entries .entry)) (now (values .entry))) (now (calls .entry)) (now (answers .exit)) (sheet (now (head .exit)) (now (entries .exit)) (now (values .exit))) ⌝ }
 {
     for i in 0..calls.len() {
-        answers[i] = step(head, entries, values, scratch, work, spare_entries, spare_values, calls[i]);
+        answers[i] = step(
+            head,
+            entries,
+            values,
+            scratch,
+            work,
+            spare_entries,
+            spare_values,
+            calls[i],
+        );
     }
 }
 

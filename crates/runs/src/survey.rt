@@ -35,7 +35,8 @@ fn buffers_fit(
     let n = head.n();
     let columns = head.columns();
     (answers == calls && entries == TABLE_SIZE)
-        && ((extended == columns && (quotient == n - 1 && public == n)) && (work == columns + 4 * n && scratch == columns + n))
+        && ((extended == columns && (quotient == n - 1 && public == n))
+            && (work == columns + 4 * n && scratch == columns + n))
 }
 
 // Makes a sheet, makes the listed calls one after another, then extends what stands, divides and publishes. Every answer is told, and
@@ -61,11 +62,31 @@ pub fn survey<F: Field>(
     ensures { λ r. ⌜ Outcome ops (shape wires publics rows) (now (calls .entry)) (record { answers = now (answers .entry); entries = now (entries .entry); values = now (values .entry); extended = now (extended .entry); quotient = now (divided .entry); public = now (published .entry) }) (length (now (work .entry))) (length (now (scratch .entry))) r (record { answers = now (answers .exit); entries = now (entries .exit); values = now (values .exit); extended = now (extended .exit); quotient = now (divided .exit); public = now (published .exit) }) ⌝ }
 {
     let planned = plan::<F>(wires, publics, rows)?;
-    if !buffers_fit(&planned, calls.len(), answers.len(), entries.len(), extended.len(), divided.len(), published.len(), work.len(), scratch.len()) {
+    if !buffers_fit(
+        &planned,
+        calls.len(),
+        answers.len(),
+        entries.len(),
+        extended.len(),
+        divided.len(),
+        published.len(),
+        work.len(),
+        scratch.len(),
+    ) {
         return Err(Refusal::WrongLength.at(0));
     }
     let mut head = make(wires, publics, rows, values)?;
-    replay(&mut head, entries, values, scratch, work, spare_entries, spare_values, calls, answers);
+    replay(
+        &mut head,
+        entries,
+        values,
+        scratch,
+        work,
+        spare_entries,
+        spare_values,
+        calls,
+        answers,
+    );
     let extend_answer = extend(&head, entries, values, extended);
     let quotient_answer = quotient(&head, entries, values, divided, work);
     let public_answer = public(&head, values, published);

@@ -45,7 +45,7 @@ module _ {F : Type 0} {O : Operations F} (L : Laws O) where
   upper-granted u h₀ h P (Err x) some size d f =
       let owed = d .0 in
       let none : unless (ltb 0 (length u) && eqb (length h₀) (length u - 1)) 5 None ≡ None =
-          ap (λ t. unless t 5 None) (and-from _ _ (lt-ltb 0 (length u) some) (eq-eqb (length h₀) (length u - 1) size)) in
+      ap (λ t. unless t 5 None) (and-from _ _ (lt-ltb 0 (length u) some) (eq-eqb (length h₀) (length u - 1) size)) in
       let z : _≡_ {A = ℕ} 0 1 = cc in
       omega arith
 

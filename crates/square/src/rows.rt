@@ -64,7 +64,12 @@ pub(crate) fn sum_of_row<F: Field>(
 }
 
 // The three sums of a row.
-pub(crate) fn sums_of_row<F: Field>(head: &Head, used: &[Entry<F>], values: &[F], row: u32) -> RowSums<F>
+pub(crate) fn sums_of_row<F: Field>(
+    head: &Head,
+    used: &[Entry<F>],
+    values: &[F],
+    row: u32,
+) -> RowSums<F>
     requires places { ⌜ length (now values) ≡ now head .wires ⌝ }
     requires inside { ⌜ all-inside (shape-of (now head)) (now used) ≡ true ⌝ }
     ensures { λ r. let sum = row-sum ops (shape-of (now (head .entry))) (position ops (now (used .entry))) (coefficient ops (now (values .entry))) in ⌜ (r .a ≡ sum 0 row) × (r .b ≡ sum 1 row) × (r .c ≡ sum 2 row) ⌝ }

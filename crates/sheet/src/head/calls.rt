@@ -95,7 +95,12 @@ pub fn plan<F: Field>(wires: u32, publics: u32, rows: u32) -> Result<Head, Refus
 }
 
 // The same with its value table: one on wire 0, zero on every other.
-pub fn make<F: Field>(wires: u32, publics: u32, rows: u32, values: &mut [F]) -> Result<Head, Refused>
+pub fn make<F: Field>(
+    wires: u32,
+    publics: u32,
+    rows: u32,
+    values: &mut [F],
+) -> Result<Head, Refused>
     ensures { λ r. ⌜ Made ops (shape wires publics rows) (now (values .entry)) r (now (values .exit)) ⌝ }
 {
     let head = plan::<F>(wires, publics, rows)?;

@@ -28,11 +28,10 @@ loop-i-again g c =
     let to = sheet (c .step .last .head) (c .step .last .entries) (c .step .last .values) in
     let start = sheet (c .args .head .now) (c .args .entries .now) (c .args .values .now) in
     let large = step-large O from (c .index-calls-i .result) (c .step .result) to (c .step .ensures) in
-    let room = below-same (c .loop-i .i) _ _ _ (c .loop-i-test .taken) (c .loop-i .kept .answers) (c .pre .count) in
-    (
+    let room = below-same (c .loop-i .i) _ _ _ (c .loop-i-test .taken) (c .loop-i .kept .answers) (c .pre .count) in (
       large-again (c .args .head .now) (c .loop-i .head) (c .step .last .head) (c .loop-i .inv .0) large,
       run-next O start (c .args .calls .now) (c .loop-i .answers) (c .loop-i .i) from (c .index-calls-i .result) (c .step .result) to
-      (c .loop-i-test .taken) room (c .index-calls-i .is) (c .step .ensures) (c .loop-i .inv .1),
+          (c .loop-i-test .taken) room (c .index-calls-i .is) (c .step .ensures) (c .loop-i .inv .1),
     )
 
 pub returns : need.returns

@@ -11,5 +11,5 @@ abbrev pub Inv-loop-i : given.InvT-loop-i
 Inv-loop-i g l =
     As-large (l .entry .head) (l .head)
     × ((t : Sheet (g .F .Denot)) (rest : List Answer)
-      → Run (g .F·Field .ops) (sheet (l .head) (l .entries) (l .values)) (drop (l .i) (l .calls)) rest t
-      → Run (g .F·Field .ops) (sheet (l .entry .head) (l .entry .entries) (l .entry .values)) (l .calls) (take (l .i) (l .answers) ++ rest) t)
+    → Run (g .F·Field .ops) (sheet (l .head) (l .entries) (l .values)) (drop (l .i) (l .calls)) rest t
+    → Run (g .F·Field .ops) (sheet (l .entry .head) (l .entry .entries) (l .entry .values)) (l .calls) (take (l .i) (l .answers) ++ rest) t)

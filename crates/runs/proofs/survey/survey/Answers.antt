@@ -87,10 +87,9 @@ returns g c =
     let h = c .in-Continue-head .head in
     let y : Buffers (g .F .Denot) = record { answers = c .replay .last .answers; entries = c .replay .last .entries; values = c .replay .last .values; extended = c .extend-extend-answer .last .out; quotient = c .quotient-quotient-answer .last .out; public = c .public-public-answer .last .out } in
     let s : Surveyed = record { head = c .replay .last .head; extend = c .extend-extend-answer .result; quotient = c .quotient-quotient-answer .result; public = c .public-public-answer .result } in
-    let run = subst (λ (v : List (g .F .Denot)). Run O (sheet h (x .entries) v) calls (y .answers) (sheet (s .head) (y .entries) (y .values))) (made .1 .1) (c .replay .ensures) in
-    (
+    let run = subst (λ (v : List (g .F .Denot)). Run O (sheet h (x .entries) v) calls (y .answers) (sheet (s .head) (y .entries) (y .values))) (made .1 .1) (c .replay .ensures) in (
       fit-next O S calls sizes (length (c .args .values .now)) (plan .0) fits ∙ made .0,
       told (g .F·Field·met .laws) S calls x y s h (c .args .values .now) (length (c .args .work .now)) (length (c .replay .last .work)) (length (c .args .scratch .now))
-      (made .0) (made .1 .0) (fit-parts S (length calls) sizes fits) (c .replay .kept .work) run
-      (c .extend-extend-answer .ensures) (c .quotient-quotient-answer .ensures) (c .public-public-answer .ensures),
+          (made .0) (made .1 .0) (fit-parts S (length calls) sizes fits) (c .replay .kept .work) run
+          (c .extend-extend-answer .ensures) (c .quotient-quotient-answer .ensures) (c .public-public-answer .ensures),
     )

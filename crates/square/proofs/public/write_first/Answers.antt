@@ -23,8 +23,8 @@ loop-e-again g c =
     let order = L .ring .mul-comm (c .loop-e .point) (c .args .step) in (
       rw add-one (cc),
       below-more _ _
-      (λ j h. let ne : j ≢ e = omega arith in getD-set-other out e j _ (O .zero) ne ∙ c .loop-e .inv .1 j h)
-      (getD-set-same out e _ (O .zero) (omega arith) ∙ (cc)),
+          (λ j h. let ne : j ≢ e = omega arith in getD-set-other out e j _ (O .zero) ne ∙ c .loop-e .inv .1 j h)
+          (getD-set-same out e _ (O .zero) (omega arith) ∙ (cc)),
     )
 
 pub returns : need.returns
