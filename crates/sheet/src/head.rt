@@ -3,7 +3,7 @@ ghost use mathlib.Core.Path.{_≡_};
 ghost use Prim.Native.Nat.{_+_, _*_, _^_, _≤_};
 ghost use Rattle.sheet.specs.Shape.{log-up};
 
-// Made by `make` alone, so every head that there is keeps these relations.
+// Its fields are private and it is made by `plan` alone, so every head that there is keeps these relations.
 #[derive(Drop)]
 pub struct Head {
     // m, l and N

@@ -10,14 +10,12 @@ use Rattle.square.specs.Program.{kind, U, U-row, W-row}
 
 module _ {F : Type 0} (O : Operations F) (S : Shape) where
   open Operations O using (one as 𝟙, mul as _⊗_, inverse)
-  open Shape S using (m, l)
+  open Shape S using (m)
 
   infixl 70 _⊗_
   abbrev pub ω : F
   ω = root-of-order O (log-n S)
 
-  -- p is the polynomial of degree below k that takes the values of the public rows, rows 0, stride, 2 stride, .., at their points;
-  -- the public polynomial has k/n times its coefficient at e mod k at each e below n
   abbrev k/n : F
   k/n = ones O (k S) ⊗ inverse (ones O (n S))
 
@@ -41,6 +39,8 @@ module _ {F : Type 0} (O : Operations F) (S : Shape) where
     abbrev pub Column : ℕ → List F → Type 0
     Column j = Takes O (n S) ω (λ r. U O S c (kind S r) j)
 
+    -- q is the public polynomial: p is the polynomial of degree below k that takes U's values in the public rows, which are rows 0, stride,
+    -- 2 stride, .., at their points; at each e below n, q has k/n times p's coefficient at e mod k
     pub record Public-of (z q : List F) : Type 0 where
       pub p : List F
       pub p-takes : Takes O (k S) (power O ω (stride S)) (λ t. U-row O S c (coefficient O z) (t * stride S)) p

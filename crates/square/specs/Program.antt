@@ -1,5 +1,4 @@
 -- The square arithmetic program of a sheet: rows that say that a sum, squared, is another sum.
-use mathlib.Core.Path.{_≡_}
 use mathlib.Core.List.{List}
 use Prim.Native.Nat.{ℕ, zero, suc, _+_, _*_, _-_, _/_, _%_}
 use native.Mathlib.Decide.{ℕ-discrete, decLt}

@@ -24,7 +24,7 @@ pub fn interpolate<F: Field>(values: &[F], out: &mut [F]) -> Result<(), Refused>
     let root = subgroup_root::<F>(log)?;
     // neither a root of one nor a power of two is zero
     let step = reciprocal(root);
-    let scale = reciprocal(power_of_two(log));
+    let scale = reciprocal(power_of_two::<F>(log));
     fill_coefficients(Polynomial::new(values), step, scale, out);
     Ok(())
 }

@@ -59,18 +59,20 @@ mod tests {
     #[test]
     fn multiplies() -> Result<(), Fail> {
         // (1 + 2 X) (3 + X) = 3 + 7 X + 2 X²
-        let u = Polynomial::new(&[F97::new(1), F97::new(2)]);
-        let v = Polynomial::new(&[F97::new(3), F97::new(1)]);
+        let u = [F97::new(1), F97::new(2)];
+        let v = [F97::new(3), F97::new(1)];
+        let uv = [F97::new(3), F97::new(7), F97::new(2)];
         let mut out = [F97::new(7); 3];
-        check_eq(refusal(u.product(&v, &mut out)), 0)?;
-        check(Polynomial::new(&out).equals(
-            &Polynomial::new(&[F97::new(3), F97::new(7), F97::new(2)]),
-        ))?;
-        // one place is left of (3 + X)² from X² on
-        check_eq(refusal(v.square_upper(&mut out)), 5)?;
-        let mut top = [F97::new(7)];
-        check_eq(refusal(v.square_upper(&mut top)), 0)?;
-        check_eq(top[0].value(), 1)
+        check_eq(
+            refusal(Polynomial::new(&u).product(&Polynomial::new(&v), &mut out)),
+            0,
+        )?;
+        check(Polynomial::new(&out).equals(&Polynomial::new(&uv)))?;
+        // from X² on, (1 + 2 X)² has one coefficient
+        check_eq(refusal(Polynomial::new(&u).square_upper(&mut out)), 5)?;
+        let mut upper = [F97::new(7)];
+        check_eq(refusal(Polynomial::new(&u).square_upper(&mut upper)), 0)?;
+        check_eq(upper[0].value(), 4)
     }
 
     #[test]

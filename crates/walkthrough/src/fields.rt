@@ -143,7 +143,7 @@ fn by_tables(rt: &impl Print) -> io::Result<()> {
     }
 }
 
-pub fn other_fields(rt: &impl Print) -> io::Result<()> {
+pub(crate) fn other_fields(rt: &impl Print) -> io::Result<()> {
     doubled(rt)?;
     by_tables(rt)
 }

@@ -4,7 +4,7 @@ use refusal::refused::Refused;
 use std::io;
 
 // What a call answered.
-pub fn tell(rt: &impl Print, what: &str, answer: Result<(), Refused>) -> io::Result<()> {
+pub(crate) fn tell(rt: &impl Print, what: &str, answer: Result<(), Refused>) -> io::Result<()> {
     match answer {
         Ok(()) => println!(rt, "{what}: granted"),
         Err(e) => {
@@ -24,7 +24,7 @@ fn show_element<F: FileField>(rt: &impl Print, x: F) -> io::Result<()> {
     }
 }
 
-pub fn show<F: FileField>(rt: &impl Print, what: &str, xs: &[F]) -> io::Result<()> {
+pub(crate) fn show<F: FileField>(rt: &impl Print, what: &str, xs: &[F]) -> io::Result<()> {
     print!(rt, "{what}:")?;
     for x in xs {
         show_element(rt, *x)?;

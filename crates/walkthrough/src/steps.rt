@@ -48,7 +48,7 @@ fn try_value(
     show_row(rt, head, entries, values)
 }
 
-pub fn step_by_step(rt: &impl Print) -> io::Result<()> {
+pub(crate) fn step_by_step(rt: &impl Print) -> io::Result<()> {
     let one = F97::one();
     let mut entries = [Entry::<F97>::blank(); 2048];
     let mut values = [F97::zero(); 2];

@@ -140,7 +140,7 @@ fn survey_with(rt: &impl Print, x: F97) -> io::Result<()> {
     }
 }
 
-pub fn both_witnesses(rt: &impl Print) -> io::Result<()> {
+pub(crate) fn both_witnesses(rt: &impl Print) -> io::Result<()> {
     survey_with(rt, F97::new(96))?;
     survey_with(rt, F97::new(5))
 }
