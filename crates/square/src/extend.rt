@@ -9,6 +9,7 @@ ghost use Rattle.square.specs.Rows.{position};
 ghost use Rattle.square.specs.Program.{square, extended-at, extended};
 ghost use Rattle.square.specs.Rules.{all-inside};
 ghost use Rattle.square.specs.Outcomes.{Extended};
+use crate::left::one_half;
 use crate::left::public_sum;
 use crate::rows::is_consistent;
 use crate::rows::sum_of_row;
@@ -40,7 +41,7 @@ fn value_of_wire<F: Field>(head: &Head, used: &[Entry<F>], values: &[F], w: usiz
     }
     let t = w - wires;
     if t < 2 * publics {
-        return squared(public_sum(head, values, t));
+        return squared(public_sum(head, values, one_half(), t));
     }
     let row = (t - 2 * publics) as u32;
     let a = sum_of_row(head, used, values, 0, row);

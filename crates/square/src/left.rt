@@ -34,8 +34,10 @@ pub(crate) fn stride_of(head: &Head) -> usize
 }
 
 // The left sum of multiple number t of the stride: (z_j + z_0)/2 and (z_j - z_0)/2 by turns, then nothing. No entry counts.
-pub(crate) fn public_sum<F: Field>(head: &Head, values: &[F], t: usize) -> F
-    requires { ⌜ length (now values) ≡ now head .wires ⌝ }
+// `halving` is 1/2, which a caller in a loop works out once.
+pub(crate) fn public_sum<F: Field>(head: &Head, values: &[F], halving: F, t: usize) -> F
+    requires places { ⌜ length (now values) ≡ now head .wires ⌝ }
+    requires half { ⌜ halving ≡ half ops ⌝ }
     ensures { λ r. ⌜ r ≡ U-row ops (shape-of (now (head .entry))) (position ops []) (coefficient ops (now (values .entry))) (t * stride (shape-of (now (head .entry)))) ⌝ }
 {
     if t >= 2 * head.publics() {
@@ -46,7 +48,7 @@ pub(crate) fn public_sum<F: Field>(head: &Head, values: &[F], t: usize) -> F
     } else {
         values[0].neg()
     };
-    one_half::<F>().mul(values[t / 2].add(one))
+    halving.mul(values[t / 2].add(one))
 }
 
 // The left sum of number x among the other rows: a - b and a + b by turns, then nothing.
@@ -75,7 +77,7 @@ pub(crate) fn left_sum<F: Field>(head: &Head, used: &[Entry<F>], values: &[F], r
 {
     let stride = stride_of(head);
     if r % stride == 0 {
-        public_sum(head, values, r / stride)
+        public_sum(head, values, one_half(), r / stride)
     } else {
         // r / stride + 1 public rows come before
         product_sum(head, used, values, r - (r / stride + 1))

@@ -8,7 +8,7 @@ ghost use Rattle.transform.specs.Polynomial.{table, coefficient, value-at};
 ghost use Rattle.sheet.specs.Shape.{k, stride};
 ghost use Rattle.sheet.specs.Outcomes.{shape-of};
 ghost use Rattle.square.specs.Rows.{position};
-ghost use Rattle.square.specs.Program.{U-row};
+ghost use Rattle.square.specs.Program.{half, U-row};
 ghost use Rattle.square.specs.Polynomials.{Public-of};
 ghost use Rattle.square.specs.Outcomes.{Published};
 use crate::left::one_half;
@@ -32,13 +32,14 @@ fn power_of<F: Field>(x: F, e: usize) -> F
 }
 
 // The value at x of the polynomial that has the k public rows' sums as its coefficients, by Horner's rule.
-fn value_of_sums<F: Field>(head: &Head, values: &[F], x: F) -> F
-    requires { ⌜ length (now values) ≡ now head .wires ⌝ }
+fn value_of_sums<F: Field>(head: &Head, values: &[F], halving: F, x: F) -> F
+    requires places { ⌜ length (now values) ≡ now head .wires ⌝ }
+    requires half { ⌜ halving ≡ half ops ⌝ }
     ensures { λ r. let S = shape-of (now (head .entry)) in ⌜ r ≡ value-at ops (table (k S) (λ t. U-row ops S (position ops []) (coefficient ops (now (values .entry))) (t * stride S))) x ⌝ }
 {
     let mut value = F::zero();
     for t in (0..head.k()).rev() {
-        value = value.mul(x).add(public_sum(head, values, t));
+        value = value.mul(x).add(public_sum(head, values, halving, t));
     }
     value
 }
@@ -49,9 +50,10 @@ fn write_first<F: Field>(head: &Head, values: &[F], step: F, scale: F, out: &mut
     requires room { ⌜ now head .k ≤ length (now out) ⌝ }
     ensures { λ _. let S = shape-of (now (head .entry)) in ⌜ ((e : ℕ) → e < k S → coefficient ops (now (out .exit)) e ≡ ops .mul scale (value-at ops (table (k S) (λ t. U-row ops S (position ops []) (coefficient ops (now (values .entry))) (t * stride S))) (power ops step e))) ⌝ }
 {
+    let halving = one_half();
     let mut point = F::one();
     for e in 0..head.k() {
-        out[e] = scale.mul(value_of_sums(head, values, point));
+        out[e] = scale.mul(value_of_sums(head, values, halving, point));
         point = point.mul(step);
     }
 }
