@@ -1,0 +1,3 @@
+pub mod Assigned
+pub mod Assignment
+pub mod Read

@@ -1,0 +1,4 @@
+pub mod Lists
+pub mod Opened
+pub mod Circuit
+pub mod Reader

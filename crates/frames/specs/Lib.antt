@@ -1,0 +1,5 @@
+pub mod Little
+pub mod Faults
+pub mod Checks
+pub mod Sections
+pub mod Shown
