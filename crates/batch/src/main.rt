@@ -1,5 +1,7 @@
 // Answers a file of cases, one line for each, so that another program can compare the answers with its own.
 // A case is its kind, the size of its payload (4 bytes each) and the payload; tests/reference/cases.py writes such files.
+#![tactic(auto)]
+
 mod assignment;
 mod buffers;
 mod calls;

@@ -1,4 +1,6 @@
 // Constraint files (.r1cs): the file is checked once, then its rows are read from it.
+#![tactic(auto)]
+
 pub mod header;
 pub mod item;
 mod number;

@@ -1,4 +1,6 @@
 // Damaged files: each is refused with the number and at the place that the table says, which another reader worked out.
+#![tactic(auto)]
+
 use assignments::reader::read;
 use constraints::reader::open;
 use field::file_field::FileField;

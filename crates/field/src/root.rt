@@ -9,7 +9,7 @@ use refusal::refused::Refused;
 
 // The root of one of the order 2^e; refused where the field has none.
 pub fn subgroup_root<F: Field>(e: u32) -> Result<F, Refused>
-    ensures { Decided (unless (nat_le e ops.adicity) 2 None) result (λ w. w ≡ root_of_order ops e) (Unit {0}) }
+    ensures { Decided (unless (nat_le e F.ops.adicity) 2 None) result (λ w. w ≡ root_of_order F.ops e) (Unit {0}) }
 {
     match F::root(e) {
         Some(w) => Ok(w),

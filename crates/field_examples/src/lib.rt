@@ -1,4 +1,6 @@
 // Worked values of the fields. In a crate of its own, since a crate with tests is proved twice.
+#![tactic(auto)]
+
 #[cfg(test)]
 mod tests {
     use field::field::Field;

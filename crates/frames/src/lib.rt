@@ -1,4 +1,6 @@
 // What constraint files and assignment files share: a start, and sections in frames.
+#![tactic(auto)]
+
 pub mod layout;
 pub mod number;
 pub mod section;

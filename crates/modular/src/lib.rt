@@ -1,2 +1,4 @@
 // Prime fields that reckon modulo their prime.
+#![tactic(auto)]
+
 pub mod f97;

@@ -1,4 +1,6 @@
 // Powers of 11 modulo 12289 and their logarithms, by tables. 11 generates every element other than zero.
+#![tactic(auto)]
+
 ghost use Rattle.std.specs.Prelude.{◌≡◌, ◌%◌, ◌^◌, ◌≤◌, ◌⊎◌, MatchOption};
 ghost use Rattle.powers.specs.Logarithm.{Logarithm};
 

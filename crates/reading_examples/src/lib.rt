@@ -1,4 +1,6 @@
 // How other crates read rows: by a loop over a reader, by rows that outlive it, and before the file's bytes are written to again.
+#![tactic(auto)]
+
 ghost use Rattle.std.specs.Prelude.{◌≡◌, List, length, IfSome, MatchOption, slice_set};
 ghost use Rattle.constraints.specs.Circuit.{Line, Circuit, Encodes};
 ghost use Rattle.constraints.specs.Reader.{Ahead, First};

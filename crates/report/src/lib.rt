@@ -1,4 +1,6 @@
 // The text that the program prints, made from the bytes of the two files.
+#![tactic(auto)]
+
 mod append;
 mod choice;
 mod circuit;

@@ -1,4 +1,6 @@
 // Lists of calls over one sheet, and what stands after any of them.
+#![tactic(auto)]
+
 pub mod law;
 pub mod list;
 pub mod survey;

@@ -1,4 +1,6 @@
 // sapsheet: reads a constraint file and an assignment file, makes one call and prints what it says.
+#![tactic(auto)]
+
 use report::text::{TEXT_ROOM, text};
 use std::alloc::Global;
 use std::io::Write;

@@ -1,4 +1,6 @@
 // The C entry: a quotient from the bytes of two files, by one call and without a heap.
+#![tactic(auto)]
+
 ghost use Rattle.std.specs.Prelude.{length};
 ghost use Rattle.sapsheet_c.specs.Outcome.{Outcome, Answered};
 ghost use Rattle.sapsheet_c.specs.Means.{Means};

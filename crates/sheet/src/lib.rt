@@ -1,4 +1,6 @@
 // A sheet of product rows: its numbers, its entry table and its value table, and the calls that make and fill it.
+#![tactic(auto)]
+
 pub mod call;
 pub mod entry;
 pub mod head;

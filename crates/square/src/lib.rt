@@ -1,4 +1,6 @@
 // The square arithmetic program of a sheet: its values, its quotient and its public polynomial.
+#![tactic(auto)]
+
 pub mod extend;
 pub mod left;
 pub mod public;

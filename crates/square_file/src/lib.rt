@@ -1,4 +1,6 @@
 // The square program of a sheet, written as a constraint file.
+#![tactic(auto)]
+
 mod bytes;
 mod file;
 mod measure;

@@ -1,4 +1,6 @@
 // Polynomials over a subgroup of 2-power order.
+#![tactic(auto)]
+
 pub mod interpolate;
 pub mod polynomial;
 mod product;

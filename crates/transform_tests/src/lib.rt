@@ -1,4 +1,6 @@
 // Examples of the functions on polynomials, over the field of 97 elements.
+#![tactic(auto)]
+
 #[cfg(test)]
 mod tests {
     use modular::f97::F97;

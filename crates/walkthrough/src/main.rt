@@ -1,4 +1,6 @@
 // Small tasks worked step by step, each action on a line of its own.
+#![tactic(auto)]
+
 mod fields;
 mod print;
 mod steps;
