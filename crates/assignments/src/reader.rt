@@ -12,8 +12,8 @@ use refusal::refused::Refused;
 
 // The values from a place on, as elements.
 fn fill<F: FileField>(bytes: &[u8], from: usize, table: &mut [F])
-    requires { (from + length table.old * 8 ≤ length bytes.now) × (valued bytes.now prime (length table.old) from ≡ None) }
-    ensures { table.new ≡ map (ones F.Field.ops) (values bytes.now (length table.old) from) }
+    requires { (from + length table.old * 8 ≤ length bytes.now) × (valued bytes.now F.prime (length table.old) from ≡ None) }
+    ensures { table.new ≡ map (ones F.ops) (values bytes.now (length table.old) from) }
 {
     for i in 0..table.len() {
         // every value is below the prime
@@ -26,7 +26,7 @@ fn fill<F: FileField>(bytes: &[u8], from: usize, table: &mut [F])
 
 // All checks, and then the values.
 fn filled<F: FileField>(bytes: &[u8], table: &mut [F]) -> Result<(), Refused>
-    ensures { Checked F.Field.ops bytes.now prime table.old result table.new }
+    ensures { Checked F.ops bytes.now F.prime table.old result table.new }
 {
     let places = table.len();
     if places < 1 || places > 3072 {
@@ -40,8 +40,8 @@ fn filled<F: FileField>(bytes: &[u8], table: &mut [F]) -> Result<(), Refused>
 // Reads an assignment file into a table with a place for each of its values; a refused reading changes nothing.
 // `verdict` by the order of the checks, `assignment` by what such a file is.
 pub fn read<F: FileField>(bytes: &[u8], table: &mut [F]) -> Result<(), Refused>
-    ensures verdict { Checked F.Field.ops bytes.now prime table.old result table.new }
-    ensures assignment { Reads F.Field.ops bytes.now prime (length table.old) result table.new }
+    ensures verdict { Checked F.ops bytes.now F.prime table.old result table.new }
+    ensures assignment { Reads F.ops bytes.now F.prime (length table.old) result table.new }
 {
     filled(bytes, table)
 }

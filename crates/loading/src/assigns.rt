@@ -5,8 +5,8 @@ use field::field::Field;
 use field::file_field::FileField;
 
 pub fn reading_assigns<F: FileField>() -> u8
-    ensures numbers { NumbersAssign F.Field.ops }
-    ensures reading { ReadingAssigns F.Field.ops prime }
+    ensures numbers { NumbersAssign F.ops }
+    ensures reading { ReadingAssigns F.ops F.prime }
 {
     0
 }

@@ -21,7 +21,7 @@ fn check_numbers<F: FileField>(
     entries: usize,
     values: usize,
 ) -> Result<u32, Refused>
-    ensures { Decided (numbers_due F.Field.ops prime header.prime prime_at (file_shape header) entries values None) result (λ l. l ≡ 1 + header.outputs + header.inputs) (Unit {0}) }
+    ensures { Decided (numbers_due F.ops F.prime header.prime prime_at (file_shape header) entries values None) result (λ l. l ≡ 1 + header.outputs + header.inputs) (Unit {0}) }
 {
     if header.prime != F::prime() {
         return Err(Refusal::OtherPrime.at(prime_at));
@@ -42,7 +42,7 @@ fn loaded<F: FileField>(
     entries: &mut [Entry<F>],
     values: &mut [F],
 ) -> Result<Head, Refused>
-    ensures { Loaded F.Field.ops prime reader.entry entries.old values.old result entries.new values.new }
+    ensures { Loaded F.ops F.prime reader.entry entries.old values.old result entries.new values.new }
 {
     let header = reader.header();
     let prime_at = reader.prime_at();
@@ -63,8 +63,8 @@ pub fn load<F: FileField>(
     entries: &mut [Entry<F>],
     values: &mut [F],
 ) -> Result<Head, Refused>
-    ensures any { Loaded F.Field.ops prime reader.entry entries.old values.old result entries.new values.new }
-    ensures circuit { LoadsCircuit F.Field.ops prime reader.entry entries.old values.old result entries.new values.new }
+    ensures any { Loaded F.ops F.prime reader.entry entries.old values.old result entries.new values.new }
+    ensures circuit { LoadsCircuit F.ops F.prime reader.entry entries.old values.old result entries.new values.new }
 {
     loaded(reader, entries, values)
 }

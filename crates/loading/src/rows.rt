@@ -25,7 +25,7 @@ fn enter_item<F: FileField>(
     row: u32,
     item: Item,
 )
-    ensures { EntersAll F.Field.ops head.old entries.old (list_entries F.Field.ops matrix row (below prime (item ∷ []))) head.new entries.new }
+    ensures { EntersAll F.ops head.old entries.old (list_entries F.ops matrix row (below F.prime (item ∷ []))) head.new entries.new }
 {
     if let Some(x) = F::element(item.coefficient) {
         let _ = enter(head, entries, matrix, row, item.wire, x);
@@ -40,7 +40,7 @@ fn enter_list<F: FileField>(
     row: u32,
     part: &[u8],
 )
-    ensures { EntersAll F.Field.ops head.old entries.old (list_entries F.Field.ops matrix row (below prime (items_of part.now))) head.new entries.new }
+    ensures { EntersAll F.ops head.old entries.old (list_entries F.ops matrix row (below F.prime (items_of part.now))) head.new entries.new }
 {
     let mut items = ItemReader::new(part);
     while let Some(item) = items.next() {
@@ -50,7 +50,7 @@ fn enter_list<F: FileField>(
 
 // The three lists of one row.
 fn enter_row<F: FileField>(head: &mut Head, entries: &mut [Entry<F>], number: u32, row: Row<'_>)
-    ensures { EntersAll F.Field.ops head.old entries.old (line_entries F.Field.ops number (line_below prime (line_of row.entry))) head.new entries.new }
+    ensures { EntersAll F.ops head.old entries.old (line_entries F.ops number (line_below F.prime (line_of row.entry))) head.new entries.new }
 {
     enter_list(head, entries, 0, number, row.a);
     enter_list(head, entries, 1, number, row.b);
@@ -63,7 +63,7 @@ pub(crate) fn enter_rows<F: FileField>(
     entries: &mut [Entry<F>],
     reader: RowReader<'_>,
 )
-    ensures { EntersAll F.Field.ops head.old entries.old (entries_from F.Field.ops 0 (map (line_below prime) (rows_ahead reader.entry))) head.new entries.new }
+    ensures { EntersAll F.ops head.old entries.old (entries_from F.ops 0 (map (line_below F.prime) (rows_ahead reader.entry))) head.new entries.new }
 {
     let mut reader = reader;
     let mut number = 0;

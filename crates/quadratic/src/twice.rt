@@ -11,7 +11,7 @@ use refusal::refused::Refused;
 
 // A root of one of the order 2^e, of which there are two orders more than in the field below.
 pub fn root_in_quartic<F: Field>(e: u32) -> Result<Quadratic<Quadratic<F>>, Refused>
-    ensures { Decided (unless (nat_le e (ops.adicity + 2)) 2 None) result (λ w. w ≡ root_of_order (doubled (doubled ops)) e) (Unit {0}) }
+    ensures { Decided (unless (nat_le e (F.ops.adicity + 2)) 2 None) result (λ w. w ≡ root_of_order (doubled (doubled F.ops)) e) (Unit {0}) }
 {
     subgroup_root(e)
 }

@@ -18,7 +18,7 @@ use sheet::head::calls::plan;
 
 // Whether a shape is within the limits, but the field has no subgroup for its rows.
 fn lacks_root<F: Field>(wires: u32, publics: u32, rows: u32) -> bool
-    ensures { let S = shape wires publics rows in result ≡ (in_limits S && not (nat_le (log_of_n S) ops.adicity)) }
+    ensures { let S = shape wires publics rows in result ≡ (in_limits S && not (nat_le (log_of_n S) F.ops.adicity)) }
 {
     match plan::<F>(wires, publics, rows) {
         Ok(_) => false,

@@ -29,15 +29,15 @@ fn tell_circuit<F: FileField>(
     work: &mut [F],
     text: &mut [u8],
 ) -> usize
-    requires small { prime ≤ 2 ^ 16 }
-    requires narrow { (h : AnyHead) → h.log_n ≤ F.Field.ops.adicity → width * h.n ≤ 2048 }
+    requires small { F.prime ≤ 2 ^ 16 }
+    requires narrow { (h : AnyHead) → h.log_n ≤ F.ops.adicity → F.width * h.n ≤ 2048 }
     requires entries { length entries.old ≡ 2048 }
     requires values { length values.old ≡ min reader.header.wires 2048 }
     requires divided { 2047 ≤ length divided.old }
     requires published { 2048 ≤ length published.old }
     requires work { 11264 ≤ length work.old }
     requires room { text_room ≤ length text.old }
-    ensures { TellsCircuit F.Field.ops coordinates prime doublings reader.entry witness.now text.old result text.new }
+    ensures { TellsCircuit F.ops F.coordinates F.prime doublings reader.entry witness.now text.old result text.new }
 {
     match fill(reader, witness, LONGEST, entries, values) {
         Ok(head) => report_sheet(
@@ -59,15 +59,15 @@ pub(crate) fn report_circuit<F: FileField>(
     work: &mut [F],
     text: &mut [u8],
 ) -> usize
-    requires small { prime ≤ 2 ^ 16 }
-    requires narrow { (h : AnyHead) → h.log_n ≤ F.Field.ops.adicity → width * h.n ≤ 2048 }
+    requires small { F.prime ≤ 2 ^ 16 }
+    requires narrow { (h : AnyHead) → h.log_n ≤ F.ops.adicity → F.width * h.n ≤ 2048 }
     requires entries { length entries.old ≡ 2048 }
     requires values { 2048 ≤ length values.old }
     requires divided { 2047 ≤ length divided.old }
     requires published { 2048 ≤ length published.old }
     requires work { 11264 ≤ length work.old }
     requires room { text_room ≤ length text.old }
-    ensures { TellsCircuit F.Field.ops coordinates prime doublings reader.entry witness.now text.old result text.new }
+    ensures { TellsCircuit F.ops F.coordinates F.prime doublings reader.entry witness.now text.old result text.new }
 {
     // a circuit with more wires than that is refused, whatever the length
     let places = (reader.header().wires as usize).min(WIRES);

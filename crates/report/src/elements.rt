@@ -21,11 +21,11 @@ fn append_coordinate(out: &mut [u8], at: usize, i: u32, c: u64) -> usize
 
 // An element of a field whose numbers have at most five digits.
 fn append_element<F: FileField>(out: &mut [u8], at: usize, x: F) -> usize
-    requires small { prime ≤ 2 ^ 16 }
-    requires narrow { width < 2 ^ 32 }
-    requires room { at + 6 * width ≤ length out.old }
-    ensures text { Appended out.old at (element_text (coordinates x)) result out.new }
-    ensures short { result ≤ at + 6 * width }
+    requires small { F.prime ≤ 2 ^ 16 }
+    requires narrow { F.width < 2 ^ 32 }
+    requires room { at + 6 * F.width ≤ length out.old }
+    ensures text { Appended out.old at (element_text (F.coordinates x)) result out.new }
+    ensures short { result ≤ at + 6 * F.width }
 {
     let mut to = at;
     let mut i = 0;
@@ -38,11 +38,11 @@ fn append_element<F: FileField>(out: &mut [u8], at: usize, x: F) -> usize
 
 // Elements, each behind a space.
 pub(crate) fn append_elements<F: FileField>(out: &mut [u8], at: usize, xs: &[F]) -> usize
-    requires small { prime ≤ 2 ^ 16 }
-    requires narrow { width < 2 ^ 32 }
-    requires room { at + (6 * width + 1) * length xs.now ≤ length out.old }
-    ensures text { Appended out.old at (elements_text (map coordinates xs.now)) result out.new }
-    ensures short { result ≤ at + (6 * width + 1) * length xs.now }
+    requires small { F.prime ≤ 2 ^ 16 }
+    requires narrow { F.width < 2 ^ 32 }
+    requires room { at + (6 * F.width + 1) * length xs.now ≤ length out.old }
+    ensures text { Appended out.old at (elements_text (map F.coordinates xs.now)) result out.new }
+    ensures short { result ≤ at + (6 * F.width + 1) * length xs.now }
 {
     let mut to = at;
     for x in xs {

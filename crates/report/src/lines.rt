@@ -31,11 +31,11 @@ pub(crate) fn append_numbers(out: &mut [u8], at: usize, word: &[u8], a: u64, b: 
 
 // A word and elements.
 pub(crate) fn append_line<F: FileField>(out: &mut [u8], at: usize, word: &[u8], xs: &[F]) -> usize
-    requires small { prime ≤ 2 ^ 16 }
-    requires narrow { width < 2 ^ 32 }
-    requires room { at + length word.now + (6 * width + 1) * length xs.now + 1 ≤ length out.old }
-    ensures text { Appended out.old at (elements_line word.now (map coordinates xs.now)) result out.new }
-    ensures short { result ≤ at + length word.now + (6 * width + 1) * length xs.now + 1 }
+    requires small { F.prime ≤ 2 ^ 16 }
+    requires narrow { F.width < 2 ^ 32 }
+    requires room { at + length word.now + (6 * F.width + 1) * length xs.now + 1 ≤ length out.old }
+    ensures text { Appended out.old at (elements_line word.now (map F.coordinates xs.now)) result out.new }
+    ensures short { result ≤ at + length word.now + (6 * F.width + 1) * length xs.now + 1 }
 {
     let word_end = append_text(out, at, word);
     let end = append_elements(out, word_end, xs);

@@ -40,12 +40,12 @@ fn append_polynomials<F: FileField>(
     divided: &[F],
     published: &[F],
 ) -> usize
-    requires small { prime ≤ 2 ^ 16 }
-    requires narrow { width * (length divided.now + 1) ≤ 2048 }
+    requires small { F.prime ≤ 2 ^ 16 }
+    requires narrow { F.width * (length divided.now + 1) ≤ 2048 }
     requires same { length published.now ≡ length divided.now + 1 }
     requires few { length published.now ≤ 2048 }
     requires room { at + 28700 ≤ length text.old }
-    ensures { Appended text.old at (elements_line (codes "quotient") (map coordinates divided.now) ++ elements_line (codes "public") (map coordinates published.now)) result text.new }
+    ensures { Appended text.old at (elements_line (codes "quotient") (map F.coordinates divided.now) ++ elements_line (codes "public") (map F.coordinates published.now)) result text.new }
 {
     let at = append_line(text, at, b"quotient", divided);
     append_line(text, at, b"public", published)
@@ -62,13 +62,13 @@ fn tell_sheet<F: FileField>(
     work: &mut [F],
     text: &mut [u8],
 ) -> usize
-    requires small { prime ≤ 2 ^ 16 }
-    requires narrow { width * head.now.n ≤ 2048 }
+    requires small { F.prime ≤ 2 ^ 16 }
+    requires narrow { F.width * head.now.n ≤ 2048 }
     requires divided { length divided.old ≡ head.now.n - 1 }
     requires published { length published.old ≡ head.now.n }
     requires work { length work.old ≡ head.now.columns + 4 * head.now.n }
     requires room { text_room ≤ length text.old }
-    ensures { TellsModel F.Field.ops coordinates prime doublings (sheet head.now entries.now values.now) text.old result text.new }
+    ensures { TellsModel F.ops F.coordinates F.prime doublings (sheet head.now entries.now values.now) text.old result text.new }
 {
     let at = append_sheet(text, F::prime(), doublings, head);
     match quotient(head, entries, values, divided, work) {
@@ -92,13 +92,13 @@ pub(crate) fn report_sheet<F: FileField>(
     work: &mut [F],
     text: &mut [u8],
 ) -> usize
-    requires small { prime ≤ 2 ^ 16 }
-    requires narrow { width * head.now.n ≤ 2048 }
+    requires small { F.prime ≤ 2 ^ 16 }
+    requires narrow { F.width * head.now.n ≤ 2048 }
     requires divided { 2047 ≤ length divided.old }
     requires published { 2048 ≤ length published.old }
     requires work { 11264 ≤ length work.old }
     requires room { text_room ≤ length text.old }
-    ensures { TellsModel F.Field.ops coordinates prime doublings (sheet head.now entries.now values.now) text.old result text.new }
+    ensures { TellsModel F.ops F.coordinates F.prime doublings (sheet head.now entries.now values.now) text.old result text.new }
 {
     let n = head.n();
     let size = head.columns() + 4 * n;

@@ -4,7 +4,7 @@ ghost use Rattle.runs.specs.Law.{LawOverRuns};
 use field::field::Field;
 
 pub fn law_over_runs<F: Field>() -> u8
-    ensures { LawOverRuns ops }
+    ensures { LawOverRuns F.ops }
 {
     0
 }

@@ -52,7 +52,7 @@ fn step<F: Field>(
     requires places { length values.old ≡ head.old.wires }
     requires room { length scratch.old ≡ head.old.columns + head.old.n }
     requires work { length work.old ≡ head.old.columns + 4 * head.old.n }
-    ensures { Step ops (sheet head.old entries.old values.old) call result (sheet head.new entries.new values.new) }
+    ensures { Step F.ops (sheet head.old entries.old values.old) call result (sheet head.new entries.new values.new) }
 {
     match call {
         Call::Enter {
@@ -138,7 +138,7 @@ pub(crate) fn replay<F: Field>(
     requires room { length scratch.old ≡ head.old.columns + head.old.n }
     requires work { length work.old ≡ head.old.columns + 4 * head.old.n }
     requires count { length answers.old ≡ length calls.now }
-    ensures { Run ops (sheet head.old entries.old values.old) calls.now answers.new (sheet head.new entries.new values.new) }
+    ensures { Run F.ops (sheet head.old entries.old values.old) calls.now answers.new (sheet head.new entries.new values.new) }
 {
     for i in 0..calls.len() {
         answers[i] = step(
@@ -156,7 +156,7 @@ pub(crate) fn replay<F: Field>(
 
 // Every run that the calls' contracts allow, whoever makes it. The function computes nothing: its contract is the theorem.
 pub fn runs_stand<F: Field>() -> u8
-    ensures { RunsStand ops }
+    ensures { RunsStand F.ops }
 {
     0
 }

@@ -21,10 +21,10 @@ fn answer_sheet<F: FileField>(
     divided: &mut [F],
     work: &mut [F],
 ) -> u32
-    requires single { width ≡ 1 }
+    requires single { F.width ≡ 1 }
     requires divided { 2047 ≤ length divided.old }
     requires work { 11264 ≤ length work.old }
-    ensures { AnswersSheet F.Field.ops prime head.now entries.now values.now answer.old result answer.new }
+    ensures { AnswersSheet F.ops F.prime head.now entries.now values.now answer.old result answer.new }
 {
     let n = head.n();
     let size = n - 1;
@@ -52,12 +52,12 @@ pub(crate) fn answer_reader<F: FileField>(
     divided: &mut [F],
     work: &mut [F],
 ) -> u32
-    requires single { width ≡ 1 }
+    requires single { F.width ≡ 1 }
     requires entries { length entries.old ≡ 2048 }
     requires values { length values.old ≡ 2048 }
     requires divided { 2047 ≤ length divided.old }
     requires work { 11264 ≤ length work.old }
-    ensures { AnswersReader F.Field.ops prime reader.entry witness.now answer.old result answer.new }
+    ensures { AnswersReader F.ops F.prime reader.entry witness.now answer.old result answer.new }
 {
     // more wires than places are refused before the length is looked at
     let wires = reader.header().wires as usize;

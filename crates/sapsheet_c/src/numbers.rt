@@ -10,17 +10,17 @@ use writing::put::put_long;
 
 // The number below the prime: the lone coordinate, which an element of a prime field has.
 fn number_of<F: FileField>(x: F) -> u64
-    requires { width ≡ 1 }
-    ensures { (result < prime) × (x ≡ ones F.Field.ops result) }
+    requires { F.width ≡ 1 }
+    ensures { (result < F.prime) × (x ≡ ones F.ops result) }
 {
     x.coordinate(0).unwrap_or(0)
 }
 
 // Each number in 8 bytes, the least byte first, from the start of the buffer on; nothing behind them is changed.
 pub(crate) fn write_numbers<F: FileField>(xs: &[F], out: &mut [u8])
-    requires single { width ≡ 1 }
+    requires single { F.width ≡ 1 }
     requires room { 8 * length xs.now ≤ length out.old }
-    ensures { (ns : List ℕ) × (xs.now ≡ map (ones F.Field.ops) ns) × All (λ v. v < prime) ns × (out.new ≡ value_bytes ns ++ drop (8 * length ns) out.old) }
+    ensures { (ns : List ℕ) × (xs.now ≡ map (ones F.ops) ns) × All (λ v. v < F.prime) ns × (out.new ≡ value_bytes ns ++ drop (8 * length ns) out.old) }
 {
     for (i, x) in xs.iter().enumerate() {
         put_long(out, 8 * i, number_of(*x));

@@ -15,7 +15,7 @@ pub struct Entry<F> {
 impl<F: Field> Entry<F> {
     // A record for a table that is not filled yet.
     pub fn blank() -> Entry<F>
-        ensures { (result.matrix ≡ 0) × (result.row ≡ 0) × (result.wire ≡ 0) × (result.coefficient ≡ ops.zero) }
+        ensures { (result.matrix ≡ 0) × (result.row ≡ 0) × (result.wire ≡ 0) × (result.coefficient ≡ F.ops.zero) }
     {
         Entry {
             matrix: 0,

@@ -19,8 +19,8 @@ pub fn fill<F: FileField>(
     entries: &mut [Entry<F>],
     values: &mut [F],
 ) -> Result<Head, Refused>
-    ensures reader { Taken F.Field.ops prime reader.entry witness.now most entries.old values.old result entries.new values.new }
-    ensures circuit { TakesFiles F.Field.ops prime reader.entry witness.now most entries.old values.old result entries.new values.new }
+    ensures reader { Taken F.ops F.prime reader.entry witness.now most entries.old values.old result entries.new values.new }
+    ensures circuit { TakesFiles F.ops F.prime reader.entry witness.now most entries.old values.old result entries.new values.new }
 {
     let head = load(reader, entries, values)?;
     if witness.len() > most {

@@ -18,7 +18,7 @@ use sheet::head::calls::TABLE_SIZE;
 
 // x²
 fn squared<F: Field>(x: F) -> F
-    ensures { result ≡ square ops x }
+    ensures { result ≡ square F.ops x }
 {
     x.mul(x)
 }
@@ -28,7 +28,7 @@ fn value_of_wire<F: Field>(head: &Head, used: &[Entry<F>], values: &[F], w: usiz
     requires places { length values.now ≡ head.now.wires }
     requires inside { all_inside (shape_of head.now) used.now ≡ true }
     requires wire { w < head.now.columns }
-    ensures { result ≡ extended_at ops (shape_of head.now) (position ops used.now) (coefficient ops values.now) w }
+    ensures { result ≡ extended_at F.ops (shape_of head.now) (position F.ops used.now) (coefficient F.ops values.now) w }
 {
     let wires = head.wires();
     let publics = head.publics();
@@ -49,7 +49,7 @@ fn write_values<F: Field>(head: &Head, used: &[Entry<F>], values: &[F], out: &mu
     requires places { length values.now ≡ head.now.wires }
     requires inside { all_inside (shape_of head.now) used.now ≡ true }
     requires room { length out.old ≡ head.now.columns }
-    ensures { out.new ≡ extended ops (shape_of head.now) (position ops used.now) (coefficient ops values.now) }
+    ensures { out.new ≡ extended F.ops (shape_of head.now) (position F.ops used.now) (coefficient F.ops values.now) }
 {
     for w in 0..out.len() {
         out[w] = value_of_wire(head, used, values, w);
@@ -63,7 +63,7 @@ pub fn extend<F: Field>(
     values: &[F],
     out: &mut [F],
 ) -> Result<(), Refused>
-    ensures { Extended ops head.now entries.now values.now out.old result out.new }
+    ensures { Extended F.ops head.now entries.now values.now out.old result out.new }
 {
     if entries.len() != TABLE_SIZE || values.len() != head.wires() || out.len() != head.columns() {
         return Err(Refusal::WrongLength.at(0));

@@ -14,7 +14,7 @@ use sheet::head::Head;
 
 // 1/2, which every field has.
 pub fn one_half<F: Field>() -> F
-    ensures { result ≡ half ops }
+    ensures { result ≡ half F.ops }
 {
     match F::one().add(F::one()).inverse() {
         Some(x) => x,
@@ -34,8 +34,8 @@ pub fn stride_of(head: &Head) -> usize
 // `halving` is 1/2, which a caller in a loop works out once.
 pub(crate) fn public_sum<F: Field>(head: &Head, values: &[F], halving: F, t: usize) -> F
     requires places { length values.now ≡ head.now.wires }
-    requires half { halving ≡ half ops }
-    ensures { result ≡ u_row ops (shape_of head.now) (position ops []) (coefficient ops values.now) (t * stride (shape_of head.now)) }
+    requires half { halving ≡ half F.ops }
+    ensures { result ≡ u_row F.ops (shape_of head.now) (position F.ops []) (coefficient F.ops values.now) (t * stride (shape_of head.now)) }
 {
     if t >= 2 * head.publics() {
         return F::zero();
@@ -52,8 +52,8 @@ pub(crate) fn public_sum<F: Field>(head: &Head, values: &[F], halving: F, t: usi
 fn product_sum<F: Field>(head: &Head, used: &[Entry<F>], values: &[F], x: usize) -> F
     requires places { length values.now ≡ head.now.wires }
     requires inside { all_inside (shape_of head.now) used.now ≡ true }
-    requires one { coefficient ops values.now 0 ≡ ops.one }
-    ensures { let S = shape_of head.now in let c = position ops used.now in result ≡ dot ops (columns S) (U ops S c (product_kind S x)) (coefficient ops (extended ops S c (coefficient ops values.now))) }
+    requires one { coefficient F.ops values.now 0 ≡ F.ops.one }
+    ensures { let S = shape_of head.now in let c = position F.ops used.now in result ≡ dot F.ops (columns S) (U F.ops S c (product_kind S x)) (coefficient F.ops (extended F.ops S c (coefficient F.ops values.now))) }
 {
     if x >= 2 * head.rows() {
         return F::zero();
@@ -68,9 +68,9 @@ fn product_sum<F: Field>(head: &Head, used: &[Entry<F>], values: &[F], x: usize)
 pub(crate) fn left_sum<F: Field>(head: &Head, used: &[Entry<F>], values: &[F], r: usize) -> F
     requires places { length values.now ≡ head.now.wires }
     requires inside { all_inside (shape_of head.now) used.now ≡ true }
-    requires one { coefficient ops values.now 0 ≡ ops.one }
+    requires one { coefficient F.ops values.now 0 ≡ F.ops.one }
     requires row { r < head.now.n }
-    ensures { let S = shape_of head.now in let c = position ops used.now in result ≡ u_row ops S c (coefficient ops (extended ops S c (coefficient ops values.now))) r }
+    ensures { let S = shape_of head.now in let c = position F.ops used.now in result ≡ u_row F.ops S c (coefficient F.ops (extended F.ops S c (coefficient F.ops values.now))) r }
 {
     let stride = stride_of(head);
     if r % stride == 0 {

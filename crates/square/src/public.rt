@@ -18,7 +18,7 @@ use sheet::head::Head;
 
 // x times itself, e times.
 fn power_of<F: Field>(x: F, e: usize) -> F
-    ensures { result ≡ power ops x e }
+    ensures { result ≡ power F.ops x e }
 {
     let mut product = F::one();
     for _ in 0..e {
@@ -30,8 +30,8 @@ fn power_of<F: Field>(x: F, e: usize) -> F
 // The value at x of the polynomial that has the k public rows' sums as its coefficients, by Horner's rule.
 fn value_of_sums<F: Field>(head: &Head, values: &[F], halving: F, x: F) -> F
     requires places { length values.now ≡ head.now.wires }
-    requires half { halving ≡ half ops }
-    ensures { let S = shape_of head.now in result ≡ value_at ops (table (k S) (λ t. u_row ops S (position ops []) (coefficient ops values.now) (t * stride S))) x }
+    requires half { halving ≡ half F.ops }
+    ensures { let S = shape_of head.now in result ≡ value_at F.ops (table (k S) (λ t. u_row F.ops S (position F.ops []) (coefficient F.ops values.now) (t * stride S))) x }
 {
     let mut value = F::zero();
     for t in (0..head.k()).rev() {
@@ -44,7 +44,7 @@ fn value_of_sums<F: Field>(head: &Head, values: &[F], halving: F, x: F) -> F
 fn write_first<F: Field>(head: &Head, values: &[F], step: F, scale: F, out: &mut [F])
     requires places { length values.now ≡ head.now.wires }
     requires room { head.now.k ≤ length out.old }
-    ensures { let S = shape_of head.now in ((e : ℕ) → e < k S → coefficient ops out.new e ≡ ops.mul scale (value_at ops (table (k S) (λ t. u_row ops S (position ops []) (coefficient ops values.now) (t * stride S))) (power ops step e))) }
+    ensures { let S = shape_of head.now in ((e : ℕ) → e < k S → coefficient F.ops out.new e ≡ F.ops.mul scale (value_at F.ops (table (k S) (λ t. u_row F.ops S (position F.ops []) (coefficient F.ops values.now) (t * stride S))) (power F.ops step e))) }
 {
     let halving = one_half();
     let mut point = F::one();
@@ -57,7 +57,7 @@ fn write_first<F: Field>(head: &Head, values: &[F], step: F, scale: F, out: &mut
 // The first places again and again, to the end.
 fn repeat_first<F: Field>(period: usize, out: &mut [F])
     requires { 0 < period }
-    ensures { (e : ℕ) → e < length out.old → coefficient ops out.new e ≡ coefficient ops out.old (e % period) }
+    ensures { (e : ℕ) → e < length out.old → coefficient F.ops out.new e ≡ coefficient F.ops out.old (e % period) }
 {
     for e in period..out.len() {
         out[e] = out[e - period];
@@ -68,9 +68,9 @@ fn repeat_first<F: Field>(period: usize, out: &mut [F])
 fn write_public<F: Field>(head: &Head, values: &[F], root: F, out: &mut [F])
     requires places { length values.now ≡ head.now.wires }
     requires room { length out.old ≡ head.now.n }
-    requires order { head.now.log_n ≤ ops.adicity }
-    requires root { root ≡ root_of_order ops head.now.log_n }
-    ensures { PublicOf ops (shape_of head.now) (position ops []) values.now out.new }
+    requires order { head.now.log_n ≤ F.ops.adicity }
+    requires root { root ≡ root_of_order F.ops head.now.log_n }
+    ensures { PublicOf F.ops (shape_of head.now) (position F.ops []) values.now out.new }
 {
     // the root's n-th power is one, so this is one over its stride-th
     let step = power_of(root, head.n() - stride_of(head));
@@ -82,7 +82,7 @@ fn write_public<F: Field>(head: &Head, values: &[F], root: F, out: &mut [F])
 
 // The n coefficients of the public polynomial, whether rows hold or not.
 pub fn public<F: Field>(head: &Head, values: &[F], out: &mut [F]) -> Result<(), Refused>
-    ensures { Published ops head.now values.now out.old result out.new }
+    ensures { Published F.ops head.now values.now out.old result out.new }
 {
     let root = subgroup_root::<F>(head.log_n())?;
     if values.len() != head.wires() || out.len() != head.n() {

@@ -36,9 +36,9 @@ fn lengths_fit(head: &Head, entries: usize, values: usize, out: usize, work: usi
 fn write_left_sums<F: Field>(head: &Head, used: &[Entry<F>], values: &[F], sums: &mut [F])
     requires places { length values.now ≡ head.now.wires }
     requires inside { all_inside (shape_of head.now) used.now ≡ true }
-    requires one { coefficient ops values.now 0 ≡ ops.one }
+    requires one { coefficient F.ops values.now 0 ≡ F.ops.one }
     requires room { length sums.old ≡ head.now.n }
-    ensures { let S = shape_of head.now in let c = position ops used.now in sums.new ≡ table (n S) (u_row ops S c (coefficient ops (extended ops S c (coefficient ops values.now)))) }
+    ensures { let S = shape_of head.now in let c = position F.ops used.now in sums.new ≡ table (n S) (u_row F.ops S c (coefficient F.ops (extended F.ops S c (coefficient F.ops values.now)))) }
 {
     for r in 0..sums.len() {
         sums[r] = left_sum(head, used, values, r);
@@ -55,12 +55,12 @@ fn divide<F: Field>(
 ) -> Result<(), Refused>
     requires places { length values.now ≡ head.now.wires }
     requires inside { all_inside (shape_of head.now) used.now ≡ true }
-    requires one { coefficient ops values.now 0 ≡ ops.one }
-    requires root { head.now.log_n ≤ ops.adicity }
+    requires one { coefficient F.ops values.now 0 ≡ F.ops.one }
+    requires root { head.now.log_n ≤ F.ops.adicity }
     requires room { length out.old ≡ head.now.n - 1 }
     requires work { 2 * head.now.n ≤ length work.old }
-    requires hold { failing_row ops (shape_of head.now) (position ops used.now) (coefficient ops values.now) ≡ None }
-    ensures { let S = shape_of head.now in let c = position ops used.now in MatchResult result (λ _. QuotientOf ops S c (extended ops S c (coefficient ops values.now)) out.new) (λ _. ⊥) }
+    requires hold { failing_row F.ops (shape_of head.now) (position F.ops used.now) (coefficient F.ops values.now) ≡ None }
+    ensures { let S = shape_of head.now in let c = position F.ops used.now in MatchResult result (λ _. QuotientOf F.ops S c (extended F.ops S c (coefficient F.ops values.now)) out.new) (λ _. ⊥) }
 {
     let n = head.n();
     let (sums, rest) = work.split_at_mut(n);
@@ -78,7 +78,7 @@ pub fn quotient<F: Field>(
     out: &mut [F],
     work: &mut [F],
 ) -> Result<(), Refused>
-    ensures { Divided ops head.now entries.now values.now out.old (length work.old) result out.new }
+    ensures { Divided F.ops head.now entries.now values.now out.old (length work.old) result out.new }
 {
     let _ = subgroup_root::<F>(head.log_n())?;
     if !lengths_fit(head, entries.len(), values.len(), out.len(), work.len()) {

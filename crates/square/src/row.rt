@@ -16,7 +16,7 @@ use sheet::head::calls::TABLE_SIZE;
 impl<F: Field> RowSums<F> {
     // Whether the A-sum times the B-sum is the C-sum.
     pub fn hold(self) -> bool
-        ensures { result ≡ decided (ops.same (ops.mul self.a self.b) self.c) }
+        ensures { result ≡ decided (F.ops.same (F.ops.mul self.a self.b) self.c) }
     {
         self.a.mul(self.b).same(self.c)
     }
@@ -29,7 +29,7 @@ pub fn sums<F: Field>(
     values: &[F],
     row: u32,
 ) -> Result<RowSums<F>, Refused>
-    ensures { Summed ops head.now entries.now values.now row result }
+    ensures { Summed F.ops head.now entries.now values.now row result }
 {
     if entries.len() != TABLE_SIZE || values.len() != head.wires() {
         return Err(Refusal::WrongLength.at(0));

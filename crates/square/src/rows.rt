@@ -26,7 +26,7 @@ pub fn are_inside<F: Field>(head: &Head, used: &[Entry<F>]) -> bool
 // Whether value 0 is one and every used entry lies within the sheet.
 pub(crate) fn is_consistent<F: Field>(head: &Head, used: &[Entry<F>], values: &[F]) -> bool
     requires { 0 < length values.now }
-    ensures { result ≡ (starts_with_one ops (shape_of head.now) values.now && all_inside (shape_of head.now) used.now) }
+    ensures { result ≡ (starts_with_one F.ops (shape_of head.now) values.now && all_inside (shape_of head.now) used.now) }
 {
     values[0].same(F::one()) && are_inside(head, used)
 }
@@ -34,7 +34,7 @@ pub(crate) fn is_consistent<F: Field>(head: &Head, used: &[Entry<F>], values: &[
 // The sum so far, and what one entry adds to it.
 fn with_entry<F: Field>(sum: F, e: Entry<F>, values: &[F], matrix: u32, row: u32) -> F
     requires { e.wire < length values.now }
-    ensures { result ≡ ops.add sum (only ops e.matrix matrix (only ops e.row row (ops.mul e.coefficient (coefficient ops values.now e.wire)))) }
+    ensures { result ≡ F.ops.add sum (only F.ops e.matrix matrix (only F.ops e.row row (F.ops.mul e.coefficient (coefficient F.ops values.now e.wire)))) }
 {
     if e.matrix == matrix && e.row == row {
         sum.add(e.coefficient.mul(values[e.wire as usize]))
@@ -53,7 +53,7 @@ pub(crate) fn sum_of_row<F: Field>(
 ) -> F
     requires places { length values.now ≡ head.now.wires }
     requires inside { all_inside (shape_of head.now) used.now ≡ true }
-    ensures { result ≡ row_sum ops (shape_of head.now) (position ops used.now) (coefficient ops values.now) matrix row }
+    ensures { result ≡ row_sum F.ops (shape_of head.now) (position F.ops used.now) (coefficient F.ops values.now) matrix row }
 {
     let mut sum = F::zero();
     for e in used {
@@ -71,7 +71,7 @@ pub(crate) fn sums_of_row<F: Field>(
 ) -> RowSums<F>
     requires places { length values.now ≡ head.now.wires }
     requires inside { all_inside (shape_of head.now) used.now ≡ true }
-    ensures { let sum = row_sum ops (shape_of head.now) (position ops used.now) (coefficient ops values.now) in (result.a ≡ sum 0 row) × (result.b ≡ sum 1 row) × (result.c ≡ sum 2 row) }
+    ensures { let sum = row_sum F.ops (shape_of head.now) (position F.ops used.now) (coefficient F.ops values.now) in (result.a ≡ sum 0 row) × (result.b ≡ sum 1 row) × (result.c ≡ sum 2 row) }
 {
     RowSums {
         a: sum_of_row(head, used, values, 0, row),
@@ -84,7 +84,7 @@ pub(crate) fn sums_of_row<F: Field>(
 pub(crate) fn failing_row<F: Field>(head: &Head, used: &[Entry<F>], values: &[F]) -> Option<usize>
     requires places { length values.now ≡ head.now.wires }
     requires inside { all_inside (shape_of head.now) used.now ≡ true }
-    ensures { result ≡ failing_row ops (shape_of head.now) (position ops used.now) (coefficient ops values.now) }
+    ensures { result ≡ failing_row F.ops (shape_of head.now) (position F.ops used.now) (coefficient F.ops values.now) }
 {
     for i in 0..head.rows() {
         if !row_holds(head, used, values, i as u32) {
@@ -97,7 +97,7 @@ pub(crate) fn failing_row<F: Field>(head: &Head, used: &[Entry<F>], values: &[F]
 fn row_holds<F: Field>(head: &Head, used: &[Entry<F>], values: &[F], row: u32) -> bool
     requires places { length values.now ≡ head.now.wires }
     requires inside { all_inside (shape_of head.now) used.now ≡ true }
-    ensures { let sum = row_sum ops (shape_of head.now) (position ops used.now) (coefficient ops values.now) in result ≡ decided (ops.same (ops.mul (sum 0 row) (sum 1 row)) (sum 2 row)) }
+    ensures { let sum = row_sum F.ops (shape_of head.now) (position F.ops used.now) (coefficient F.ops values.now) in result ≡ decided (F.ops.same (F.ops.mul (sum 0 row) (sum 1 row)) (sum 2 row)) }
 {
     sums_of_row(head, used, values, row).hold()
 }

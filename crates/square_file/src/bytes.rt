@@ -26,9 +26,9 @@ fn write_items<F: FileField>(
     out: &mut [u8],
     at: usize,
 ) -> usize
-    requires { at + 12 * length (terms_of F.Field.ops (shape_of head.now) used.now k.now) ≤ length out.old }
-    ensures place { result ≡ at + 12 * length (terms_of F.Field.ops (shape_of head.now) used.now k.now) }
-    ensures put { Put out.old at (item_bytes (items F.Field.ops prime (terms_of F.Field.ops (shape_of head.now) used.now k.now))) out.new }
+    requires { at + 12 * length (terms_of F.ops (shape_of head.now) used.now k.now) ≤ length out.old }
+    ensures place { result ≡ at + 12 * length (terms_of F.ops (shape_of head.now) used.now k.now) }
+    ensures put { Put out.old at (item_bytes (items F.ops F.prime (terms_of F.ops (shape_of head.now) used.now k.now))) out.new }
 {
     let mut from = 0;
     let mut to = at;
@@ -48,9 +48,9 @@ fn write_list<F: FileField>(
     out: &mut [u8],
     at: usize,
 ) -> usize
-    requires { at + (4 + 12 * length (terms_of F.Field.ops (shape_of head.now) used.now k.now)) ≤ length out.old }
-    ensures place { result ≡ at + (4 + 12 * length (terms_of F.Field.ops (shape_of head.now) used.now k.now)) }
-    ensures put { Put out.old at (list_bytes (items F.Field.ops prime (terms_of F.Field.ops (shape_of head.now) used.now k.now))) out.new }
+    requires { at + (4 + 12 * length (terms_of F.ops (shape_of head.now) used.now k.now)) ≤ length out.old }
+    ensures place { result ≡ at + (4 + 12 * length (terms_of F.ops (shape_of head.now) used.now k.now)) }
+    ensures put { Put out.old at (list_bytes (items F.ops F.prime (terms_of F.ops (shape_of head.now) used.now k.now))) out.new }
 {
     let end = write_items(head, used, k, out, at + 4);
     // the count is known once the items are written
@@ -66,9 +66,9 @@ fn write_row<F: FileField>(
     out: &mut [u8],
     at: usize,
 ) -> usize
-    requires { let S = shape_of head.now in at + length (row_bytes (line F.Field.ops prime S (position F.Field.ops used.now) r ∷ [])) ≤ length out.old }
-    ensures place { let S = shape_of head.now in result ≡ at + length (row_bytes (line F.Field.ops prime S (position F.Field.ops used.now) r ∷ [])) }
-    ensures put { let S = shape_of head.now in Put out.old at (row_bytes (line F.Field.ops prime S (position F.Field.ops used.now) r ∷ [])) out.new }
+    requires { let S = shape_of head.now in at + length (row_bytes (line F.ops F.prime S (position F.ops used.now) r ∷ [])) ≤ length out.old }
+    ensures place { let S = shape_of head.now in result ≡ at + length (row_bytes (line F.ops F.prime S (position F.ops used.now) r ∷ [])) }
+    ensures put { let S = shape_of head.now in Put out.old at (row_bytes (line F.ops F.prime S (position F.ops used.now) r ∷ [])) out.new }
 {
     let left = Combination::left(head, r);
     let right = Combination::right(head, r);
@@ -84,9 +84,9 @@ pub(crate) fn write_rows<F: FileField>(
     out: &mut [u8],
     at: usize,
 ) -> usize
-    requires { let S = shape_of head.now in at + length (row_bytes (table (n S) (line F.Field.ops prime S (position F.Field.ops used.now)))) ≤ length out.old }
-    ensures place { let S = shape_of head.now in result ≡ at + length (row_bytes (table (n S) (line F.Field.ops prime S (position F.Field.ops used.now)))) }
-    ensures put { let S = shape_of head.now in Put out.old at (row_bytes (table (n S) (line F.Field.ops prime S (position F.Field.ops used.now)))) out.new }
+    requires { let S = shape_of head.now in at + length (row_bytes (table (n S) (line F.ops F.prime S (position F.ops used.now)))) ≤ length out.old }
+    ensures place { let S = shape_of head.now in result ≡ at + length (row_bytes (table (n S) (line F.ops F.prime S (position F.ops used.now)))) }
+    ensures put { let S = shape_of head.now in Put out.old at (row_bytes (table (n S) (line F.ops F.prime S (position F.ops used.now)))) out.new }
 {
     let mut to = at;
     for r in 0..head.n() {

@@ -60,10 +60,10 @@ fn write_header(out: &mut [u8], prime: u64, wires: u32, inputs: u32, rows: u32)
 
 // The whole file, whose rows take so many bytes.
 pub(crate) fn write_file<F: FileField>(head: &Head, used: &[Entry<F>], size: usize, out: &mut [u8])
-    requires size { let S = shape_of head.now in size ≡ length (row_bytes (table (n S) (line F.Field.ops prime S (position F.Field.ops used.now)))) }
+    requires size { let S = shape_of head.now in size ≡ length (row_bytes (table (n S) (line F.ops F.prime S (position F.ops used.now)))) }
     requires room { 88 + size + 8 * head.now.columns ≤ length out.old }
-    ensures file { out.new ≡ square_file_bytes F.Field.ops prime (shape_of head.now) (position F.Field.ops used.now) ++ drop (88 + size + 8 * head.now.columns) out.old }
-    ensures small { prime < 2 ^ 64 }
+    ensures file { out.new ≡ square_file_bytes F.ops F.prime (shape_of head.now) (position F.ops used.now) ++ drop (88 + size + 8 * head.now.columns) out.old }
+    ensures small { F.prime < 2 ^ 64 }
 {
     let wires = head.columns();
     write_start(out);

@@ -18,7 +18,7 @@ use writing::plain::plain_number;
 
 // How many terms a combination has; None where a coefficient has no number.
 fn count_terms<F: FileField>(head: &Head, used: &[Entry<F>], k: &Combination<F>) -> Option<usize>
-    ensures { let S = shape_of head.now in let ts = terms_of F.Field.ops S used.now k.now in Measured (all_plain F.Field.ops prime ts) (length ts) (columns S) result }
+    ensures { let S = shape_of head.now in let ts = terms_of F.ops S used.now k.now in Measured (all_plain F.ops F.prime ts) (length ts) (columns S) result }
 {
     let mut count = 0;
     let mut from = 0;
@@ -35,7 +35,7 @@ fn count_terms<F: FileField>(head: &Head, used: &[Entry<F>], k: &Combination<F>)
 // How many bytes row r takes: three counts, and 12 bytes an item, of which a list has at most 3,072, the most wires that there are.
 // None where a coefficient has no number.
 fn row_size<F: FileField>(head: &Head, used: &[Entry<F>], r: usize) -> Option<usize>
-    ensures { let S = shape_of head.now in let c = position F.Field.ops used.now in Measured (plain_row F.Field.ops prime S c r) (length (row_bytes (line F.Field.ops prime S c r ∷ []))) (12 + 36 * 3072) result }
+    ensures { let S = shape_of head.now in let c = position F.ops used.now in Measured (plain_row F.ops F.prime S c r) (length (row_bytes (line F.ops F.prime S c r ∷ []))) (12 + 36 * 3072) result }
 {
     let left = count_terms(head, used, &Combination::left(head, r))?;
     let right = count_terms(head, used, &Combination::right(head, r))?;
@@ -44,7 +44,7 @@ fn row_size<F: FileField>(head: &Head, used: &[Entry<F>], r: usize) -> Option<us
 
 // How many bytes the rows take; None where a coefficient has no number.
 pub(crate) fn rows_size<F: FileField>(head: &Head, used: &[Entry<F>]) -> Option<usize>
-    ensures { let S = shape_of head.now in let c = position F.Field.ops used.now in Measured (plain_rows F.Field.ops prime S c (n S)) (length (row_bytes (table (n S) (line F.Field.ops prime S c)))) (2048 * (12 + 36 * 3072)) result }
+    ensures { let S = shape_of head.now in let c = position F.ops used.now in Measured (plain_rows F.ops F.prime S c (n S)) (length (row_bytes (table (n S) (line F.ops F.prime S c)))) (2048 * (12 + 36 * 3072)) result }
 {
     let mut size = 0;
     for r in 0..head.n() {

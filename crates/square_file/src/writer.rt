@@ -19,8 +19,8 @@ pub fn write_program<F: FileField>(
     entries: &[Entry<F>],
     out: &mut [u8],
 ) -> Result<usize, Refused>
-    ensures written { Written F.Field.ops prime head.now entries.now out.old result out.new }
-    ensures readable { Readable F.Field.ops prime head.now entries.now result out.new }
+    ensures written { Written F.ops F.prime head.now entries.now out.old result out.new }
+    ensures readable { Readable F.ops F.prime head.now entries.now result out.new }
 {
     if entries.len() != TABLE_SIZE {
         return Err(Refusal::WrongLength.at(0));

@@ -13,7 +13,7 @@ pub struct Term<F> {
 impl<F: Field> Term<F> {
     // What the term adds to the coefficient of wire w.
     pub(crate) fn at(self, w: usize) -> F
-        ensures { result ≡ only ops self.wire w self.coefficient }
+        ensures { result ≡ only F.ops self.wire w self.coefficient }
     {
         if self.wire == w {
             self.coefficient

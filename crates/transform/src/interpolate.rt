@@ -14,7 +14,7 @@ use refusal::refused::Refused;
 
 // Fills `out` with the n coefficients of the polynomial whose value at ω^r is values[r], for the root of one ω of the order n that the field has chosen.
 pub fn interpolate<F: Field>(values: &[F], out: &mut [F]) -> Result<(), Refused>
-    ensures { Interpolated ops values.now out.old out.new result }
+    ensures { Interpolated F.ops values.now out.old out.new result }
 {
     let log = shared_log(values.len(), out.len())?;
     let root = subgroup_root::<F>(log)?;
@@ -38,7 +38,7 @@ fn shared_log(values: usize, out: usize) -> Result<u32, Refused>
 
 // 2^e as an element, by doubling one.
 fn power_of_two<F: Field>(e: u32) -> F
-    ensures { result ≡ ones ops (2 ^ e) }
+    ensures { result ≡ ones F.ops (2 ^ e) }
 {
     let mut n = F::one();
     for _ in 0..e {
@@ -49,8 +49,8 @@ fn power_of_two<F: Field>(e: u32) -> F
 
 // The inverse of an element that is not zero.
 fn reciprocal<F: Field>(x: F) -> F
-    requires { ¬ (x ≡ ops.zero) }
-    ensures { ops.mul x result ≡ ops.one }
+    requires { ¬ (x ≡ F.ops.zero) }
+    ensures { F.ops.mul x result ≡ F.ops.one }
 {
     match x.inverse() {
         Some(y) => y,
@@ -61,7 +61,7 @@ fn reciprocal<F: Field>(x: F) -> F
 // Fills `out` with the scaled values at 1, step, step², .. of the polynomial that has the given values as its coefficients:
 // with step = 1/ω and scale = 1/n these are the coefficients sought. Each costs one value and two products.
 fn fill_coefficients<F: Field>(values: Polynomial<F>, step: F, scale: F, out: &mut [F])
-    ensures { out.new ≡ table (length out.old) (λ j. ops.mul scale (value_at ops values.entry.coefficients.now (power ops step j))) }
+    ensures { out.new ≡ table (length out.old) (λ j. F.ops.mul scale (value_at F.ops values.entry.coefficients.now (power F.ops step j))) }
 {
     let mut point = F::one();
     for coefficient in out.iter_mut() {

@@ -29,7 +29,7 @@ impl<'a, F: Field> Polynomial<'a, F> {
 
     // The coefficient at any place, past the end too.
     pub fn coefficient(&self, i: usize) -> F
-        ensures { result ≡ coefficient ops self.now.coefficients.now i }
+        ensures { result ≡ coefficient F.ops self.now.coefficients.now i }
     {
         match self.coefficients.get(i) {
             Some(c) => *c,
@@ -39,14 +39,14 @@ impl<'a, F: Field> Polynomial<'a, F> {
 
     // The value at a point.
     pub fn value_at(&self, x: F) -> F
-        ensures { result ≡ value_at ops self.now.coefficients.now x }
+        ensures { result ≡ value_at F.ops self.now.coefficients.now x }
     {
         horner(self.coefficients, x)
     }
 
     // Writes the product into `out`, which has a place for each of its coefficients: one less than the factors have together, none where a factor has none.
     pub fn product(&self, other: &Polynomial<F>, out: &mut [F]) -> Result<(), Refused>
-        ensures { Multiplied ops self.now.coefficients.now other.now.coefficients.now out.old out.new result }
+        ensures { Multiplied F.ops self.now.coefficients.now other.now.coefficients.now out.old out.new result }
     {
         if product_length(self.coefficients.len(), other.coefficients.len()) != Some(out.len()) {
             return Err(Refusal::WrongLength.at(0));
@@ -57,7 +57,7 @@ impl<'a, F: Field> Polynomial<'a, F> {
 
     // Writes the upper half of the square into `out`: of n coefficients, at least one, the square has n - 1 from n on.
     pub fn square_upper(&self, out: &mut [F]) -> Result<(), Refused>
-        ensures { UpperSquared ops self.now.coefficients.now out.old out.new result }
+        ensures { UpperSquared F.ops self.now.coefficients.now out.old out.new result }
     {
         if self.coefficients.len().checked_sub(1) != Some(out.len()) {
             return Err(Refusal::WrongLength.at(0));
@@ -68,7 +68,7 @@ impl<'a, F: Field> Polynomial<'a, F> {
 
     // Whether it is the same polynomial. Values do not tell: X^p and X have the same ones over the field of p elements.
     pub fn equals(&self, other: &Polynomial<F>) -> bool
-        ensures { (result ≡ true) ↔ Equal ops self.now.coefficients.now other.now.coefficients.now }
+        ensures { (result ≡ true) ↔ Equal F.ops self.now.coefficients.now other.now.coefficients.now }
     {
         for i in 0..self.coefficients.len().max(other.coefficients.len()) {
             if !self.coefficient(i).same(other.coefficient(i)) {
@@ -81,7 +81,7 @@ impl<'a, F: Field> Polynomial<'a, F> {
 
 // The value at x, by Horner's rule: one product and one sum for each coefficient.
 fn horner<F: Field>(coefficients: &[F], x: F) -> F
-    ensures { result ≡ value_at ops coefficients.now x }
+    ensures { result ≡ value_at F.ops coefficients.now x }
 {
     let mut value = F::zero();
     for c in coefficients.iter().rev() {

@@ -6,7 +6,7 @@ use field::field::Field;
 
 // The theory of polynomials over a subgroup, for every field.
 pub fn theory_stands<F: Field>() -> u8
-    ensures { Theory ops }
+    ensures { Theory F.ops }
 {
     0
 }

@@ -29,7 +29,7 @@ pub(crate) const VALUES_AT: usize = 52;
 
 // Whether every value has a number.
 pub(crate) fn are_plain<F: FileField>(values: &[F]) -> bool
-    ensures { result ≡ all_plain F.Field.ops prime values.now }
+    ensures { result ≡ all_plain F.ops F.prime values.now }
 {
     for x in values {
         if plain_number(*x).is_none() {
@@ -64,7 +64,7 @@ fn write_header(out: &mut [u8], prime: u64, count: u32)
 // The numbers of the values, from a place on.
 fn write_numbers<F: FileField>(values: &[F], out: &mut [u8], at: usize)
     requires { at + 8 * length values.now ≤ length out.old }
-    ensures { Put out.old at (value_bytes (numbers F.Field.ops prime values.now)) out.new }
+    ensures { Put out.old at (value_bytes (numbers F.ops F.prime values.now)) out.new }
 {
     for (i, x) in values.iter().enumerate() {
         put_long(out, at + 8 * i, number_of(*x));
@@ -74,7 +74,7 @@ fn write_numbers<F: FileField>(values: &[F], out: &mut [u8], at: usize)
 // The second section.
 fn write_body<F: FileField>(values: &[F], out: &mut [u8])
     requires { 52 + 8 * length values.now ≤ length out.old }
-    ensures { Put out.old 40 (block_bytes (block 2 (value_bytes (numbers F.Field.ops prime values.now)))) out.new }
+    ensures { Put out.old 40 (block_bytes (block 2 (value_bytes (numbers F.ops F.prime values.now)))) out.new }
 {
     put_word(out, BODY_AT, 2);
     put_long(out, BODY_AT + 4, 8 * values.len() as u64);
@@ -85,8 +85,8 @@ fn write_body<F: FileField>(values: &[F], out: &mut [u8])
 pub(crate) fn write_file<F: FileField>(values: &[F], p: u64, out: &mut [u8])
     requires room { 52 + 8 * length values.now ≤ length out.old }
     requires few { length values.now ≤ 3072 }
-    requires named { p ≡ prime }
-    ensures { out.new ≡ value_file_bytes F.Field.ops prime values.now ++ drop (52 + 8 * length values.now) out.old }
+    requires named { p ≡ F.prime }
+    ensures { out.new ≡ value_file_bytes F.ops F.prime values.now ++ drop (52 + 8 * length values.now) out.old }
 {
     write_start(out);
     write_header(out, p, values.len() as u32);

@@ -16,8 +16,8 @@ pub fn write_values<F: FileField>(
     extended: &[F],
     out: &mut [u8],
 ) -> Result<usize, Refused>
-    ensures written { Written F.Field.ops prime head.now extended.now out.old result out.new }
-    ensures reads { Readable F.Field.ops prime head.now extended.now result out.new }
+    ensures written { Written F.ops F.prime head.now extended.now out.old result out.new }
+    ensures reads { Readable F.ops F.prime head.now extended.now result out.new }
 {
     if extended.len() != head.columns() {
         return Err(Refusal::WrongLength.at(0));
@@ -43,7 +43,7 @@ pub fn read_back<F: FileField>(
     out: &mut [u8],
     table: &mut [F],
 ) -> Result<(), Refused>
-    ensures { ReadBack F.Field.ops prime head.now extended.now out.old table.old result out.new table.new }
+    ensures { ReadBack F.ops F.prime head.now extended.now out.old table.old result out.new table.new }
 {
     if table.len() != head.columns() {
         return Err(Refusal::WrongLength.at(0));

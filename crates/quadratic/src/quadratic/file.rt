@@ -7,11 +7,11 @@ use field::field::Field;
 use field::file_field::FileField;
 
 impl<F: FileField> FileField for Quadratic<F> {
-    ghost prime = { F.FileField.prime };
+    ghost prime = { F.prime };
 
-    ghost width = { 2 * F.FileField.width };
+    ghost width = { 2 * F.width };
 
-    ghost coordinates = { λ x. interleave (F.FileField.coordinates x.a) (F.FileField.coordinates x.b) };
+    ghost coordinates = { λ x. interleave (F.coordinates x.a) (F.coordinates x.b) };
 
     fn prime() -> u64 {
         F::prime()

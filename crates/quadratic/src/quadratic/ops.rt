@@ -15,7 +15,7 @@ impl<F> Quadratic<F> {
 }
 
 impl<F: Field> Field for Quadratic<F> {
-    ghost ops = { doubled F.Field.ops };
+    ghost ops = { doubled F.ops };
 
     ghost laws = { doubled_laws F.Field.laws };
 

@@ -51,7 +51,7 @@ fn within_limits(wires: u32, publics: u32, rows: u32) -> bool
 // One on wire 0, zero on every other.
 fn reset<F: Field>(values: &mut [F])
     requires { 1 ≤ length values.old }
-    ensures { values.new ≡ first_values ops (length values.old) }
+    ensures { values.new ≡ first_values F.ops (length values.old) }
 {
     for v in values.iter_mut() {
         *v = F::zero();
@@ -82,7 +82,7 @@ fn head_of(wires: usize, publics: usize, rows: usize) -> Head
 
 // The head of a sheet of m wires, l of them public, and N rows, before there are values.
 pub fn plan<F: Field>(wires: u32, publics: u32, rows: u32) -> Result<Head, Refused>
-    ensures { Planned ops (shape wires publics rows) result }
+    ensures { Planned F.ops (shape wires publics rows) result }
 {
     if !within_limits(wires, publics, rows) {
         return Err(Refusal::OutOfLimits.at(0));
@@ -99,7 +99,7 @@ pub fn make<F: Field>(
     rows: u32,
     values: &mut [F],
 ) -> Result<Head, Refused>
-    ensures { Made ops (shape wires publics rows) values.old result values.new }
+    ensures { Made F.ops (shape wires publics rows) values.old result values.new }
 {
     let head = plan::<F>(wires, publics, rows)?;
     if values.len() != head.wires {

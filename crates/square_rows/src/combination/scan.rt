@@ -15,7 +15,7 @@ use sheet::head::Head;
 // x times what stands for a wire of the sheet in product rows, at wire w.
 fn at_image<F: Field>(head: &Head, wire: usize, x: F, w: usize) -> F
     requires { wire < head.now.wires }
-    ensures { result ≡ ops.mul x (image ops (shape_of head.now) wire w) }
+    ensures { result ≡ F.ops.mul x (image F.ops (shape_of head.now) wire w) }
 {
     if wire >= head.publics() {
         return if w == wire { x } else { F::zero() };
@@ -46,7 +46,7 @@ fn wire_from(wire: usize, from: usize, stop: usize) -> usize
 impl<F: Field> Combination<F> {
     // What an entry of a matrix counts for.
     fn factor(&self, matrix: u32) -> F
-        ensures { result ≡ matrix_factor ops self.now matrix }
+        ensures { result ≡ matrix_factor F.ops self.now matrix }
     {
         match matrix {
             0 => self.a,
@@ -58,7 +58,7 @@ impl<F: Field> Combination<F> {
 
     // What an entry adds to the coefficient of wire w.
     fn share(&self, head: &Head, e: Entry<F>, w: usize) -> F
-        ensures { result ≡ weighted ops (shape_of head.now) (position ops (e ∷ [])) self.now w }
+        ensures { result ≡ weighted F.ops (shape_of head.now) (position F.ops (e ∷ [])) self.now w }
     {
         let wire = e.wire as usize;
         let row = self.row;
@@ -71,7 +71,7 @@ impl<F: Field> Combination<F> {
 
     // The coefficient of wire w.
     fn coefficient(&self, head: &Head, used: &[Entry<F>], w: usize) -> F
-        ensures { result ≡ combined ops (shape_of head.now) (position ops used.now) self.now w }
+        ensures { result ≡ combined F.ops (shape_of head.now) (position F.ops used.now) self.now w }
     {
         let mut sum = self.first.at(w).add(self.second.at(w));
         for e in used {
@@ -84,7 +84,7 @@ impl<F: Field> Combination<F> {
     fn entry_from(&self, head: &Head, e: Entry<F>, from: usize) -> usize
         requires { from ≤ head.now.columns }
         ensures within { (from ≤ result) × (result ≤ head.now.columns) }
-        ensures passed { (w : ℕ) → from ≤ w → w < result → weighted ops (shape_of head.now) (position ops (e ∷ [])) self.now w ≡ ops.zero }
+        ensures passed { (w : ℕ) → from ≤ w → w < result → weighted F.ops (shape_of head.now) (position F.ops (e ∷ [])) self.now w ≡ F.ops.zero }
     {
         let wire = e.wire as usize;
         let stop = head.columns();
@@ -104,7 +104,7 @@ impl<F: Field> Combination<F> {
     fn wire_after(&self, head: &Head, used: &[Entry<F>], from: usize) -> usize
         requires { from ≤ head.now.columns }
         ensures within { (from ≤ result) × (result ≤ head.now.columns) }
-        ensures passed { (w : ℕ) → from ≤ w → w < result → combined ops (shape_of head.now) (position ops used.now) self.now w ≡ ops.zero }
+        ensures passed { (w : ℕ) → from ≤ w → w < result → combined F.ops (shape_of head.now) (position F.ops used.now) self.now w ≡ F.ops.zero }
     {
         let stop = head.columns();
         let mut nearest = wire_from(self.first.wire, from, stop).min(wire_from(
@@ -120,7 +120,7 @@ impl<F: Field> Combination<F> {
 
     // The first term, from wire `from` on, whose coefficient is not zero.
     pub fn next_term(&self, head: &Head, used: &[Entry<F>], from: usize) -> Option<Term<F>>
-        ensures { FirstTerm ops (columns (shape_of head.now)) from (combined ops (shape_of head.now) (position ops used.now) self.now) result }
+        ensures { FirstTerm F.ops (columns (shape_of head.now)) from (combined F.ops (shape_of head.now) (position F.ops used.now) self.now) result }
     {
         let stop = head.columns();
         let mut at = from;

@@ -17,7 +17,7 @@ use square::left::one_half;
 
 // Two terms alone.
 fn of_terms<F: Field>(first: Term<F>, second: Term<F>) -> Combination<F>
-    ensures { (S : Shape) (c : ℕ → ℕ → ℕ → F) (w : ℕ) → combined ops S c result w ≡ ops.add (only ops first.wire w first.coefficient) (only ops second.wire w second.coefficient) }
+    ensures { (S : Shape) (c : ℕ → ℕ → ℕ → F) (w : ℕ) → combined F.ops S c result w ≡ F.ops.add (only F.ops first.wire w first.coefficient) (only F.ops second.wire w second.coefficient) }
 {
     Combination {
         first,
@@ -31,7 +31,7 @@ fn of_terms<F: Field>(first: Term<F>, second: Term<F>) -> Combination<F>
 
 // A term and the entries of a product row, those of A times a, of B times b and of C times c.
 fn of_row<F: Field>(term: Term<F>, row: u32, a: F, b: F, c: F) -> Combination<F>
-    ensures { (S : Shape) (t : ℕ → ℕ → ℕ → F) (w : ℕ) → combined ops S t result w ≡ ops.add (only ops term.wire w term.coefficient) (replaced ops S (λ v. ops.add (ops.add (ops.mul a (t 0 row v)) (ops.mul b (t 1 row v))) (ops.mul c (t 2 row v))) w) }
+    ensures { (S : Shape) (t : ℕ → ℕ → ℕ → F) (w : ℕ) → combined F.ops S t result w ≡ F.ops.add (only F.ops term.wire w term.coefficient) (replaced F.ops S (λ v. F.ops.add (F.ops.add (F.ops.mul a (t 0 row v)) (F.ops.mul b (t 1 row v))) (F.ops.mul c (t 2 row v))) w) }
 {
     Combination {
         first: term,
@@ -48,7 +48,7 @@ fn of_row<F: Field>(term: Term<F>, row: u32, a: F, b: F, c: F) -> Combination<F>
 
 // A term that adds nothing.
 fn no_term<F: Field>() -> Term<F>
-    ensures { (w : ℕ) → only ops result.wire w result.coefficient ≡ ops.zero }
+    ensures { (w : ℕ) → only F.ops result.wire w result.coefficient ≡ F.ops.zero }
 {
     Term {
         wire: 0,
@@ -58,7 +58,7 @@ fn no_term<F: Field>() -> Term<F>
 
 // The sum that is squared, by the kind of its row.
 fn left_of<F: Field>(kind: RowKind) -> Combination<F>
-    ensures { (S : Shape) (c : ℕ → ℕ → ℕ → F) (w : ℕ) → combined ops S c result w ≡ U ops S c (shown kind) w }
+    ensures { (S : Shape) (c : ℕ → ℕ → ℕ → F) (w : ℕ) → combined F.ops S c result w ≡ U F.ops S c (shown kind) w }
 {
     let one: F = F::one();
     let half: F = one_half();
@@ -91,7 +91,7 @@ fn left_of<F: Field>(kind: RowKind) -> Combination<F>
 
 // A wire with the coefficient one.
 fn unit<F: Field>(wire: usize) -> Term<F>
-    ensures { (result.wire ≡ wire) × (result.coefficient ≡ ops.one) }
+    ensures { (result.wire ≡ wire) × (result.coefficient ≡ F.ops.one) }
 {
     Term {
         wire,
@@ -102,7 +102,7 @@ fn unit<F: Field>(wire: usize) -> Term<F>
 // The sum that the square is to be, by the kind of its row.
 fn right_of<F: Field>(head: &Head, kind: RowKind) -> Combination<F>
     requires { Within (shape_of head.now) kind }
-    ensures { (c : ℕ → ℕ → ℕ → F) (w : ℕ) → combined ops (shape_of head.now) c result w ≡ W ops (shape_of head.now) c (shown kind) w }
+    ensures { (c : ℕ → ℕ → ℕ → F) (w : ℕ) → combined F.ops (shape_of head.now) c result w ≡ W F.ops (shape_of head.now) c (shown kind) w }
 {
     let wires = head.wires();
     // s_0 is behind the sheet's wires and all p and q
@@ -122,14 +122,14 @@ fn right_of<F: Field>(head: &Head, kind: RowKind) -> Combination<F>
 impl<F: Field> Combination<F> {
     // The sum that row r squares.
     pub fn left(head: &Head, r: usize) -> Combination<F>
-        ensures { (c : ℕ → ℕ → ℕ → F) (w : ℕ) → combined ops (shape_of head.now) c result w ≡ U ops (shape_of head.now) c (kind (shape_of head.now) r) w }
+        ensures { (c : ℕ → ℕ → ℕ → F) (w : ℕ) → combined F.ops (shape_of head.now) c result w ≡ U F.ops (shape_of head.now) c (kind (shape_of head.now) r) w }
     {
         left_of(kind_of(head, r))
     }
 
     // The sum that its square is to be.
     pub fn right(head: &Head, r: usize) -> Combination<F>
-        ensures { (c : ℕ → ℕ → ℕ → F) (w : ℕ) → combined ops (shape_of head.now) c result w ≡ W ops (shape_of head.now) c (kind (shape_of head.now) r) w }
+        ensures { (c : ℕ → ℕ → ℕ → F) (w : ℕ) → combined F.ops (shape_of head.now) c result w ≡ W F.ops (shape_of head.now) c (kind (shape_of head.now) r) w }
     {
         right_of(head, kind_of(head, r))
     }

@@ -4,11 +4,11 @@ use Rattle.frames.proofs.Faults.{told_at}
 use Rattle.assignments.proofs.Walk.{head_short, field_size, other_size, other_prime, other_count, head_right}
 use Rattle.assignments.proofs.checks.check_header.Goals as goal
 
-pub returns-in-default : goal.returns-in-default
-returns-in-default c =
+pub returns-in_default : goal.returns-in_default
+returns-in_default c =
     let hs = c.args.layout.header.now in (
       elim (cases_eq (length hs) 16) [
-        | inl l ↦ field_size hs _ _ _ _ _ l (λ e. c.in-default.ensures (l, e)) ∙ sym (told_at _ _ _ c.at.ensures)
+        | inl l ↦ field_size hs _ _ _ _ _ l (λ e. c.in_default.ensures (l, e)) ∙ sym (told_at _ _ _ c.at.ensures)
         | inr l ↦ head_short hs _ _ _ _ _ l ∙ sym (told_at _ _ _ c.at.ensures)
       ],
       tt,

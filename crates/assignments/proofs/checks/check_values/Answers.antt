@@ -3,8 +3,8 @@ use Rattle.frames.proofs.Faults.{told_at}
 use Rattle.assignments.proofs.Walk.{valued_more, value_out, valued_done}
 use Rattle.assignments.proofs.checks.check_values.Goals as goal
 
-pub returns-then-value-at-prime : goal.returns-then-value-at-prime
-returns-then-value-at-prime c =
+pub returns-then-value_at-prime : goal.returns-then-value_at-prime
+returns-then-value_at-prime c =
     (c.loop-left.invariant.1 ∙ value_out _ _ _ _ c.loop-left-test.true (omega (arith, c.value_at.ensures)) ∙ sym (told_at _ _ _ c.at.ensures), tt)
 
 pub loop-left-preserved : goal.loop-left-preserved

@@ -4,4 +4,4 @@ use Rattle.assignments.proofs.checks.value_at.Goals as goal
 
 pub returns : goal.returns
 unfolding le4 le8
-returns c = simp add_assoc (omega (arith, c.from-le-bytes.ensures))
+returns c = simp add_assoc (omega (arith, c.from_le_bytes.ensures))

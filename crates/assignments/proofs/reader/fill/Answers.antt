@@ -8,10 +8,10 @@ use Rattle.assignments.proofs.reader.fill.Goals as goal
 pub loop-i-init : goal.loop-i-init
 loop-i-init g c = none_yet _ _ _
 
-pub returns-in-default : goal.returns-in-default
-returns-in-default g c =
+pub returns-in_default : goal.returns-in_default
+returns-in_default g c =
     let b = value_below c.args.bytes.now _ _ _ c.loop-i.i c.requires.1 (omega arith) in
-    absurd (omega (arith, b, c.in-default.ensures, c.value_at.ensures))
+    absurd (omega (arith, b, c.in_default.ensures, c.value_at.ensures))
 
 pub loop-i-preserved : goal.loop-i-preserved
 loop-i-preserved g c =

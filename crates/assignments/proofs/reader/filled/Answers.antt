@@ -13,13 +13,13 @@ returns-then-places-lt1 g c = (
   refl,
 )
 
-pub returns-in-err-from : goal.returns-in-err-from
-returns-in-err-from g c =
-    let p = err_from_is_err_and c.from-residual.result c.from-residual.ensures.1 in
-    let e = simp c.prime.ensures.value at c.in-err-from.ensures.0 in
+pub returns-in_err-from : goal.returns-in_err-from
+returns-in_err-from g c =
+    let p = err_from_is_err_and c.from_residual.result c.from_residual.ensures.1 in
+    let e = simp c.prime.ensures.value at c.in_err-from.ensures.0 in
     rw (p.1, p.2) (room _ _ _ c.if-places-lt1.false c.if-places-gt3072.false ∙ e, refl)
 
 pub returns : goal.returns
 returns g c =
-    let e = simp c.prime.ensures.value at c.in-ok-from.ensures in
+    let e = simp c.prime.ensures.value at c.in_ok-from.ensures in
     (room _ _ _ c.if-places-lt1.false c.if-places-gt3072.false ∙ e.0, simp e.1.0 at c.fill.ensures)

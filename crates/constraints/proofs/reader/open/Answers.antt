@@ -9,6 +9,6 @@ returns c =
     record {
       verdict = c.checked.ensures;
       circuit = MatchResult-weaker c.checked.result c.checked.ensures
-          (λ s h. (opened_encodes _ _ (λ i. omega (arith, c.type-inv.bytes i)) h.0, starts _ _ s h.1))
+          (λ s h. (opened_encodes _ _ (λ i. omega (arith, c.type_inv.bytes i)) h.0, starts _ _ s h.1))
           (λ e h. never _ _ _ h.0);
     }

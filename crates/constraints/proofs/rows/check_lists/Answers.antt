@@ -5,24 +5,24 @@ use Rattle.constraints.specs.Opened.{beyond}
 use Rattle.constraints.proofs.Walk.{lists_go, lists_short, lists_done, lists_over}
 use Rattle.constraints.proofs.rows.check_lists.Goals as goal
 
-pub returns-in-err-n : goal.returns-in-err-n
-returns-in-err-n c =
-    let p = err_from_is_err_and c.from-residual.result c.from-residual.ensures.1 in
-    let e = c.in-err-n.ensures in
+pub returns-in_err-n : goal.returns-in_err-n
+returns-in_err-n c =
+    let p = err_from_is_err_and c.from_residual.result c.from_residual.ensures.1 in
+    let e = c.in_err-n.ensures in
     rw (p.1, p.2) (c.loop-left.invariant.1 ∙ lists_short _ _ _ _ _ _ c.loop-left-test.true e.0 ∙ sym e.1, tt)
 
-pub returns-in-err-check-items : goal.returns-in-err-check-items
-returns-in-err-check-items c =
-    let p = err_from_is_err_and c.from-residual-in-err-check-items.result c.from-residual-in-err-check-items.ensures.1 in
-    let e = c.in-ok-n.ensures in
+pub returns-in_err-check_items : goal.returns-in_err-check_items
+returns-in_err-check_items c =
+    let p = err_from_is_err_and c.from_residual-in_err-check_items.result c.from_residual-in_err-check_items.ensures.1 in
+    let e = c.in_ok-n.ensures in
     let f : beyond c.args.bytes.now c.loop-left.at ≤ c.args.stop = omega (arith, e) in
-    rw (p.1, p.2) (c.loop-left.invariant.1 ∙ lists_go _ _ _ _ _ _ c.loop-left-test.true f ∙ stops _ _ _ (simp e.0 at c.in-err-check-items.ensures.0), tt)
+    rw (p.1, p.2) (c.loop-left.invariant.1 ∙ lists_go _ _ _ _ _ _ c.loop-left-test.true f ∙ stops _ _ _ (simp e.0 at c.in_err-check_items.ensures.0), tt)
 
 pub loop-left-preserved : goal.loop-left-preserved
 loop-left-preserved c =
-    let e = c.in-ok-n.ensures in
+    let e = c.in_ok-n.ensures in
     let f : beyond c.args.bytes.now c.loop-left.at ≤ c.args.stop = omega (arith, e) in
-    (e.2, simp e.1 (c.loop-left.invariant.1 ∙ lists_go _ _ _ _ _ _ c.loop-left-test.true f ∙ goes _ _ (simp e.0 at c.in-ok-check-items.ensures.0)))
+    (e.2, simp e.1 (c.loop-left.invariant.1 ∙ lists_go _ _ _ _ _ _ c.loop-left-test.true f ∙ goes _ _ (simp e.0 at c.in_ok-check_items.ensures.0)))
 
 pub returns-then-at-stop : goal.returns-then-at-stop
 returns-then-at-stop c =

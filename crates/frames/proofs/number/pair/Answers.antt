@@ -4,4 +4,4 @@ use Rattle.frames.proofs.number.pair.Goals as goal
 
 pub returns : goal.returns
 unfolding le4 le8
-returns c = (search rules, c.from-le-bytes-word.ensures, omega (arith, c.from-le-bytes-long.ensures), take_all _ _ (simp length-drop (omega arith)))
+returns c = (search rules, c.from_le_bytes-word.ensures, omega (arith, c.from_le_bytes-long.ensures), take_all _ _ (simp length-drop (omega arith)))

@@ -4,4 +4,4 @@ use Rattle.frames.proofs.number.word.Goals as goal
 
 pub returns : goal.returns
 unfolding le4
-returns c = (search rules, c.from-le-bytes.ensures, take_all _ _ (simp length-drop (omega arith)))
+returns c = (search rules, c.from_le_bytes.ensures, take_all _ _ (simp length-drop (omega arith)))

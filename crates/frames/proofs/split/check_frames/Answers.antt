@@ -4,15 +4,15 @@ use Rattle.frames.proofs.Faults.{told_at}
 use Rattle.frames.proofs.Walk.{framed_more, framed_short, framed_done, framed_over}
 use Rattle.frames.proofs.split.check_frames.Goals as goal
 
-pub returns-in-err-next : goal.returns-in-err-next
-returns-in-err-next c =
-    let p = err_from_is_err_and c.from-residual.result c.from-residual.ensures.1 in
-    let e = c.in-err-next.ensures in
+pub returns-in_err-next : goal.returns-in_err-next
+returns-in_err-next c =
+    let p = err_from_is_err_and c.from_residual.result c.from_residual.ensures.1 in
+    let e = c.in_err-next.ensures in
     rw (p.1, p.2) (c.loop-left.invariant ∙ framed_short _ _ _ c.loop-left-test.true e.0 ∙ sym e.1, tt)
 
 pub loop-left-preserved : goal.loop-left-preserved
 loop-left-preserved c =
-    let e = c.in-ok-next.ensures in
+    let e = c.in_ok-next.ensures in
     simp e.2 (c.loop-left.invariant ∙ framed_more _ _ _ c.loop-left-test.true e.0)
 
 pub returns-then-at-bytes : goal.returns-then-at-bytes

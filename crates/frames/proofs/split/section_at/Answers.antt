@@ -7,10 +7,10 @@ use Rattle.frames.proofs.split.section_at.Goals as goal
 pub returns-then-at-bytes : goal.returns-then-at-bytes
 returns-then-at-bytes c = (omega arith, told_at _ _ _ c.at.ensures)
 
-pub returns-in-default : goal.returns-in-default
-returns-in-default c =
-    let e = simp (rest, length-drop) at c.in-default.ensures in
-    (omega (arith, e), told_at _ _ _ c.at-in-default.ensures)
+pub returns-in_default : goal.returns-in_default
+returns-in_default c =
+    let e = simp (rest, length-drop) at c.in_default.ensures in
+    (omega (arith, e), told_at _ _ _ c.at-in_default.ensures)
 
 pub returns-then-size-rest : goal.returns-then-size-rest
 returns-then-size-rest c =

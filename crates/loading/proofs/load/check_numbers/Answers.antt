@@ -8,12 +8,12 @@ use Rattle.loading.specs.Loaded.{file_shape}
 use Rattle.loading.proofs.Owed.{plan_refused}
 use Rattle.loading.proofs.load.check_numbers.Goals as goal
 
-pub returns-in-err-plan : goal.returns-in-err-plan
-returns-in-err-plan g c =
+pub returns-in_err-plan : goal.returns-in_err-plan
+returns-in_err-plan g c =
     let O = g.F.Field.ops in
     let h = c.args.header in
-    let p = err_from_is_err_and c.from-residual.result c.from-residual.ensures.1 in
-    let e = c.in-err-plan.field-0.0 in
+    let p = err_from_is_err_and c.from_residual.result c.from_residual.ensures.1 in
+    let e = c.in_err-plan.field-0.0 in
     let wide : c.in-Ok.publics ≡ 1 + h.outputs + h.inputs = c.in-Ok.ensures.1 ∙ c.public.ensures in
-    let owed : planned O (file_shape h) None ≡ Some (number_of e.reason, e.at) = subst (λ (l : ℕ). ◌≡◌ {A = Due} (planned O (shape h.wires l h.rows) None) (Some (number_of e.reason, e.at))) wide c.in-err-plan.ensures.0 in
+    let owed : planned O (file_shape h) None ≡ Some (number_of e.reason, e.at) = subst (λ (l : ℕ). ◌≡◌ {A = Due} (planned O (shape h.wires l h.rows) None) (Some (number_of e.reason, e.at))) wide c.in_err-plan.ensures.0 in
     rw (p.1, p.2) (plan_refused O g.F.FileField.prime h.prime c.args.prime_at (file_shape h) c.args.entries c.args.values None _ _ (c.if-header-prime.false ∙ c.prime.ensures.value) owed, tt)

@@ -14,6 +14,6 @@ loop-row-preserved c =
 
 pub returns : goal.returns
 returns c =
-    let e = c.in-default.ensures in
+    let e = c.in_default.ensures in
     let none = ap item_count (rows_none c.loop-row.reader e.row.1) in
     record { kept = e.kept ∙ c.loop-row.invariant.0; count = omega (arith, c.loop-row.invariant.2, none) }

@@ -8,5 +8,5 @@ returns-in-Some g c =
     rw (lt-ltb c.args.item.coefficient g.F.FileField.prime e.0)
     (enters_one g.F.Field.ops _ _ _ _ _ _ _ _ _ (rw e.1 at c.enter.ensures))
 
-pub returns-in-default : goal.returns-in-default
-returns-in-default g c = rw (le-ltb c.args.item.coefficient g.F.FileField.prime c.in-default.ensures) (enters_none g.F.Field.ops _ _)
+pub returns-in_default : goal.returns-in_default
+returns-in_default g c = rw (le-ltb c.args.item.coefficient g.F.FileField.prime c.in_default.ensures) (enters_none g.F.Field.ops _ _)

@@ -13,11 +13,11 @@ loop-item-preserved g c =
     let t = c.in-Some.ensures.bytes in
     let more = items_more _ _ _ t.0 t.1 t.2 t.3 in
     λ h es rest. c.loop-item.invariant h es
-    (enters_first O p _ _ _ _ _ _ _ _ _ c.enter-item.ensures (entries_cons O p _ _ _ _ _ more) rest)
+    (enters_first O p _ _ _ _ _ _ _ _ _ c.enter_item.ensures (entries_cons O p _ _ _ _ _ more) rest)
 
 pub returns : goal.returns
 returns g c =
     let O = g.F.Field.ops in
     let p = g.F.FileField.prime in
-    let none = items_none _ c.in-default.ensures.bytes.0 in
+    let none = items_none _ c.in_default.ensures.bytes.0 in
     c.loop-item.invariant _ _ (rw none (enters_none O _ _))

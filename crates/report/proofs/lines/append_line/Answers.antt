@@ -5,6 +5,6 @@ use Rattle.report.proofs.lines.append_line.Goals as goal
 pub returns : goal.returns
 returns g c =
     record {
-      text = elements_lined _ _ _ _ _ _ _ _ c.args.word.now _ c.append-text-word-end.ensures c.append-elements-end.ensures.text c.append-byte.ensures;
-      short = omega (arith, c.append-text-word-end.ensures.0, c.append-elements-end.ensures.short, c.append-byte.ensures.0);
+      text = elements_lined _ _ _ _ _ _ _ _ c.args.word.now _ c.append_text-word_end.ensures c.append_elements-end.ensures.text c.append_byte.ensures;
+      short = omega (arith, c.append_text-word_end.ensures.0, c.append_elements-end.ensures.short, c.append_byte.ensures.0);
     }

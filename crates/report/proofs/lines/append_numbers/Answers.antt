@@ -5,6 +5,6 @@ use Rattle.report.proofs.lines.append_numbers.Goals as goal
 pub returns : goal.returns
 returns c =
     record {
-      text = numbers_lined _ _ _ _ _ _ _ _ _ _ c.args.word.now c.args.a c.args.b c.append-text-word-end.ensures c.append-spaced-a-end.ensures.text c.append-spaced-b-end.ensures.text c.append-byte.ensures;
-      short = omega (arith, c.append-text-word-end.ensures.0, c.append-spaced-a-end.ensures.short, c.append-spaced-b-end.ensures.short, c.append-byte.ensures.0);
+      text = numbers_lined _ _ _ _ _ _ _ _ _ _ c.args.word.now c.args.a c.args.b c.append_text-word_end.ensures c.append_spaced-a_end.ensures.text c.append_spaced-b_end.ensures.text c.append_byte.ensures;
+      short = omega (arith, c.append_text-word_end.ensures.0, c.append_spaced-a_end.ensures.short, c.append_spaced-b_end.ensures.short, c.append_byte.ensures.0);
     }

@@ -7,7 +7,7 @@ pub returns : goal.returns
 returns c =
     let h = c.args.head.now in
     record {
-      text = append_both c.args.text.now c.append-numbers-at.new.out c.append-numbers.new.out (numbers_line (codes "field") c.args.prime c.args.doublings) (numbers_line (codes "rows") h.n h.k) 0 c.append-numbers-at.result c.append-numbers.result
-          c.append-numbers-at.ensures.text (simp (c.n.ensures.is, c.k.ensures.is) at c.append-numbers.ensures.text);
-      short = omega (arith, c.append-numbers-at.ensures.short, c.append-numbers.ensures.short);
+      text = append_both c.args.text.now c.append_numbers-at.new.out c.append_numbers.new.out (numbers_line (codes "field") c.args.prime c.args.doublings) (numbers_line (codes "rows") h.n h.k) 0 c.append_numbers-at.result c.append_numbers.result
+          c.append_numbers-at.ensures.text (simp (c.n.ensures.is, c.k.ensures.is) at c.append_numbers.ensures.text);
+      short = omega (arith, c.append_numbers-at.ensures.short, c.append_numbers.ensures.short);
     }

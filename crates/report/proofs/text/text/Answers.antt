@@ -4,8 +4,8 @@ use Rattle.report.proofs.Composing.{composed_within, written}
 use Rattle.report.proofs.text.text.Goals as goal
 
 -- what the buffer held before plays no part
-pub slice-bounds-deliver-end : goal.slice-bounds-deliver-end
-slice-bounds-deliver-end c =
+pub slice_bounds-deliver-end : goal.slice_bounds-deliver-end
+slice_bounds-deliver-end c =
     omega (arith, composed_within c.args.circuit.now c.args.witness.now [] c.compose-size.result c.compose-size.new.text c.compose-size.ensures, c.compose-size.auto.text)
 
 pub returns : goal.returns

@@ -14,35 +14,35 @@ use Rattle.runs.proofs.Told.{fit_parts, fit_next, fit_refused, planned_refused, 
 use Rattle.runs.proofs.Whole.{told}
 use Rattle.runs.proofs.survey.survey.Goals as goal
 
-pub returns-in-err-planned : goal.returns-in-err-planned
-returns-in-err-planned g c =
-    let p = err_from_is_err_and c.from-residual.result c.from-residual.ensures.1 in
-    rw (p.1, p.2) (planned_refused g.F.Field.ops (shape c.args.wires c.args.publics c.args.rows) _ _ _ c.in-err-planned.ensures.0, refl)
+pub returns-in_err-planned : goal.returns-in_err-planned
+returns-in_err-planned g c =
+    let p = err_from_is_err_and c.from_residual.result c.from_residual.ensures.1 in
+    rw (p.1, p.2) (planned_refused g.F.Field.ops (shape c.args.wires c.args.publics c.args.rows) _ _ _ c.in_err-planned.ensures.0, refl)
 
-pub returns-then-not-buffers-fit : goal.returns-then-not-buffers-fit
-returns-then-not-buffers-fit g c =
+pub returns-then-not-buffers_fit : goal.returns-then-not-buffers_fit
+returns-then-not-buffers_fit g c =
     let O = g.F.Field.ops in
     let S = shape c.args.wires c.args.publics c.args.rows in
     let calls = c.args.calls.now in
     let x : Buffers g.row.F.Denot = record { answers = c.args.answers.now; entries = c.args.entries.now; values = c.args.values.now; extended = c.args.extended.now; quotient = c.args.divided.now; public = c.args.published.now } in
     let sizes : Lengths = lengths O S calls x (length c.args.work.now) (length c.args.scratch.now) in
-    let plan = c.in-ok-planned.ensures in
-    let fits : false ≡ buffers_fit S (length calls) sizes = subst (λ (T : Shape). false ≡ buffers_fit T (length calls) sizes) (shape_same c.in-ok-planned.planned S 0 plan.1) c.if-not-buffers-fit.ensures in
+    let plan = c.in_ok-planned.ensures in
+    let fits : false ≡ buffers_fit S (length calls) sizes = subst (λ (T : Shape). false ≡ buffers_fit T (length calls) sizes) (shape_same c.in_ok-planned.planned S 0 plan.1) c.if-not-buffers_fit.ensures in
     let told = c.at.ensures in
     let owed = ap₂ (λ (r : Refusal) (a : ℕ). ◌≡◌ {A = Due} (survey_due O S calls sizes (length c.args.values.now)) (Some (number_of r, a))) (sym told.0) (sym told.1) in
     (subst (λ (T : Type 0). T) owed (fit_refused O S calls sizes (length c.args.values.now) plan.0 fits), refl)
 
-pub returns-in-err-head : goal.returns-in-err-head
-returns-in-err-head g c =
+pub returns-in_err-head : goal.returns-in_err-head
+returns-in_err-head g c =
     let O = g.F.Field.ops in
     let S = shape c.args.wires c.args.publics c.args.rows in
     let calls = c.args.calls.now in
     let x : Buffers g.row.F.Denot = record { answers = c.args.answers.now; entries = c.args.entries.now; values = c.args.values.now; extended = c.args.extended.now; quotient = c.args.divided.now; public = c.args.published.now } in
     let sizes : Lengths = lengths O S calls x (length c.args.work.now) (length c.args.scratch.now) in
-    let plan = c.in-ok-planned.ensures in
-    let fits : true ≡ buffers_fit S (length calls) sizes = subst (λ (T : Shape). true ≡ buffers_fit T (length calls) sizes) (shape_same c.in-ok-planned.planned S 0 plan.1) c.if-not-buffers-fit.ensures in
-    let made = c.in-err-head.ensures in
-    let p = err_from_is_err_and c.from-residual-in-err-head.result c.from-residual-in-err-head.ensures.1 in
+    let plan = c.in_ok-planned.ensures in
+    let fits : true ≡ buffers_fit S (length calls) sizes = subst (λ (T : Shape). true ≡ buffers_fit T (length calls) sizes) (shape_same c.in_ok-planned.planned S 0 plan.1) c.if-not-buffers_fit.ensures in
+    let made = c.in_err-head.ensures in
+    let p = err_from_is_err_and c.from_residual-in_err-head.result c.from_residual-in_err-head.ensures.1 in
     let same = ap (λ (v : List g.row.F.Denot). ◌≡◌ {A = Buffers g.row.F.Denot} (record { answers = x.answers; entries = x.entries; values = v; extended = x.extended; quotient = x.quotient; public = x.public }) x) (sym made.1) in
     rw (p.1, p.2) (fit_next O S calls sizes (length c.args.values.now) plan.0 fits ∙ made.0, subst (λ (T : Type 0). T) same refl)
 
@@ -53,11 +53,11 @@ replay-requires g c =
     let calls = c.args.calls.now in
     let x : Buffers g.row.F.Denot = record { answers = c.args.answers.now; entries = c.args.entries.now; values = c.args.values.now; extended = c.args.extended.now; quotient = c.args.divided.now; public = c.args.published.now } in
     let sizes : Lengths = lengths O S calls x (length c.args.work.now) (length c.args.scratch.now) in
-    let plan = c.in-ok-planned.ensures in
-    let fits : true ≡ buffers_fit S (length calls) sizes = subst (λ (T : Shape). true ≡ buffers_fit T (length calls) sizes) (shape_same c.in-ok-planned.planned S 0 plan.1) c.if-not-buffers-fit.ensures in
+    let plan = c.in_ok-planned.ensures in
+    let fits : true ≡ buffers_fit S (length calls) sizes = subst (λ (T : Shape). true ≡ buffers_fit T (length calls) sizes) (shape_same c.in_ok-planned.planned S 0 plan.1) c.if-not-buffers_fit.ensures in
     let fit = fit_parts S (length calls) sizes fits in
-    let made = c.in-ok-head.ensures.1 in
-    let h = c.in-ok-head.head in
+    let made = c.in_ok-head.ensures.1 in
+    let h = c.in_ok-head.head in
     let same = shape_same h S 0 made.0 in
     let wide : columns S ≡ h.columns = sym (columns_same h ∙ ap columns same) in
     let large : n S ≡ h.n = sym (n_same h ∙ ap n same) in
@@ -76,15 +76,15 @@ returns g c =
     let calls = c.args.calls.now in
     let x : Buffers g.row.F.Denot = record { answers = c.args.answers.now; entries = c.args.entries.now; values = c.args.values.now; extended = c.args.extended.now; quotient = c.args.divided.now; public = c.args.published.now } in
     let sizes : Lengths = lengths O S calls x (length c.args.work.now) (length c.args.scratch.now) in
-    let plan = c.in-ok-planned.ensures in
-    let fits : true ≡ buffers_fit S (length calls) sizes = subst (λ (T : Shape). true ≡ buffers_fit T (length calls) sizes) (shape_same c.in-ok-planned.planned S 0 plan.1) c.if-not-buffers-fit.ensures in
-    let made = c.in-ok-head.ensures in
-    let h = c.in-ok-head.head in
-    let y : Buffers g.row.F.Denot = record { answers = c.replay.new.answers; entries = c.replay.new.entries; values = c.replay.new.values; extended = c.extend-extend-answer.new.out; quotient = c.quotient-quotient-answer.new.out; public = c.public-public-answer.new.out } in
-    let s : Surveyed = record { head = c.replay.new.head; extend = c.extend-extend-answer.result; quotient = c.quotient-quotient-answer.result; public = c.public-public-answer.result } in
+    let plan = c.in_ok-planned.ensures in
+    let fits : true ≡ buffers_fit S (length calls) sizes = subst (λ (T : Shape). true ≡ buffers_fit T (length calls) sizes) (shape_same c.in_ok-planned.planned S 0 plan.1) c.if-not-buffers_fit.ensures in
+    let made = c.in_ok-head.ensures in
+    let h = c.in_ok-head.head in
+    let y : Buffers g.row.F.Denot = record { answers = c.replay.new.answers; entries = c.replay.new.entries; values = c.replay.new.values; extended = c.extend-extend_answer.new.out; quotient = c.quotient-quotient_answer.new.out; public = c.public-public_answer.new.out } in
+    let s : Surveyed = record { head = c.replay.new.head; extend = c.extend-extend_answer.result; quotient = c.quotient-quotient_answer.result; public = c.public-public_answer.result } in
     let run = subst (λ (v : List g.row.F.Denot). Run O (sheet h x.entries v) calls y.answers (sheet s.head y.entries y.values)) made.1.1 c.replay.ensures in (
       fit_next O S calls sizes (length c.args.values.now) plan.0 fits ∙ made.0,
       told g.met.F.Field.laws S calls x y s h c.args.values.now (length c.args.work.now) (length c.replay.new.work) (length c.args.scratch.now)
           made.0 made.1.0 (fit_parts S (length calls) sizes fits) c.replay.auto.work run
-          c.extend-extend-answer.ensures c.quotient-quotient-answer.ensures c.public-public-answer.ensures,
+          c.extend-extend_answer.ensures c.quotient-quotient_answer.ensures c.public-public_answer.ensures,
     )

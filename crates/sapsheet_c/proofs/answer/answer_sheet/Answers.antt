@@ -14,7 +14,7 @@ returns-in-Ok g c = λ b stands one within.
     _ c.quotient.new.out _ (divided_size h c.args.divided.now c.n-n.result c.n-n.ensures.is c.requires.divided)
     (work_size h c.args.work.now c.columns.result c.n-n.result c.columns.ensures.is c.n-n.ensures.is c.requires.work)
     (subst (λ (k : ℕ). 8 * (k - 1) ≤ length c.args.answer.now) c.n-n.ensures.is c.if-answer-size.false)
-    c.write-numbers.new.out c.in-Ok.ensures c.write-numbers.ensures
+    c.write_numbers.new.out c.in-Ok.ensures c.write_numbers.ensures
 
 pub returns-in-Err : goal.returns-in-Err
 returns-in-Err g c = λ b stands one within.

@@ -8,9 +8,9 @@ loop-i-init g c = front_none g.F.Field.ops g.F.FileField.prime c.args.out.now
 
 pub loop-i-preserved : goal.loop-i-preserved
 loop-i-preserved g c =
-    let number = c.number-of.ensures in
-    front_more g.F.Field.ops g.F.FileField.prime c.args.xs.now c.loop-i.i c.index-xs-i.result c.number-of.result c.args.out.now c.loop-i.out c.put-long.new.out
-    c.loop-i-test.true c.index-xs-i.is number.0 number.1 c.requires.room c.loop-i.invariant (c.put-long.ensures.0 (omega arith))
+    let number = c.number_of.ensures in
+    front_more g.F.Field.ops g.F.FileField.prime c.args.xs.now c.loop-i.i c.index-xs-i.result c.number_of.result c.args.out.now c.loop-i.out c.put_long.new.out
+    c.loop-i-test.true c.index-xs-i.is number.0 number.1 c.requires.room c.loop-i.invariant (c.put_long.ensures.0 (omega arith))
 
 pub returns : goal.returns
 returns g c =

@@ -12,7 +12,7 @@ loop-w-preserved g c =
     let O = g.F.Field.ops in
     below_more _ _
     (λ i h. let ne : i ≢ c.loop-w.w = omega arith in get_or-set_other c.loop-w.out c.loop-w.w i _ O.zero ne ∙ c.loop-w.invariant i h)
-    (get_or-set_same c.loop-w.out c.loop-w.w _ O.zero (omega arith) ∙ c.value-of-wire.ensures)
+    (get_or-set_same c.loop-w.out c.loop-w.w _ O.zero (omega arith) ∙ c.value_of_wire.ensures)
 
 pub returns : goal.returns
 unfolding extended

@@ -20,12 +20,12 @@ returns g c =
     let n_is : h.n ≡ n S = n_same h in
     let log_is : h.log_n ≡ log_of_n S = log_of_n_same h in
     let root : Root O (log_of_n S) (ω O S) = (theory L).roots (log_of_n S) (omega arith) in
-    let step_is : c.power-of-step.result ≡ step L S (head_fits h) root = cc in
-    let scale-is : c.power-of-scale.result ≡ scale L S (head_fits h) root = cc in
-    public_is L S (head_fits h) root (position O []) c.args.values.now c.repeat-first.new.out (omega arith)
+    let step_is : c.power_of-step.result ≡ step L S (head_fits h) root = cc in
+    let scale-is : c.power_of-scale.result ≡ scale L S (head_fits h) root = cc in
+    public_is L S (head_fits h) root (position O []) c.args.values.now c.repeat_first.new.out (omega arith)
     (λ e l.
     let period : e % c.k.result ≡ e % k S = ap (λ t. e % t) (c.k.ensures.is ∙ k_is) in
-    c.repeat-first.ensures e (omega arith)
-    ∙ ap (coefficient O c.write-first.new.out) period
-    ∙ c.write-first.ensures (e % k S) (mod-lt e (pow_pos (log_k S)))
+    c.repeat_first.ensures e (omega arith)
+    ∙ ap (coefficient O c.write_first.new.out) period
+    ∙ c.write_first.ensures (e % k S) (mod-lt e (pow_pos (log_k S)))
     ∙ cc)

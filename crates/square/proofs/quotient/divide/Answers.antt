@@ -10,15 +10,15 @@ use Rattle.square.proofs.Heads.{log_of_n_same, n_same, head_fits}
 use Rattle.square.proofs.Divided.{interpolate_none, divides}
 use Rattle.square.proofs.quotient.divide.Goals as goal
 
-pub returns-in-err-interpolate : goal.returns-in-err-interpolate
-returns-in-err-interpolate g c =
+pub returns-in_err-interpolate : goal.returns-in_err-interpolate
+returns-in_err-interpolate g c =
     let h = c.args.head.now in
-    let sums = c.write-left-sums.new.sums in
-    let u = c.split-at-mut-u.result.0.now in
+    let sums = c.write_left_sums.new.sums in
+    let u = c.split_at_mut-u.result.0.now in
     let n_is : h.n ≡ n (shape_of h) = n_same h in
     let log_is : h.log_n ≡ log_of_n (shape_of h) = log_of_n_same h in
     let none = interpolate_none g.met.F.Field.laws (log_of_n (shape_of h)) sums u (omega arith) (omega arith) (omega arith) in
-    let refused = c.in-err-interpolate.ensures in
+    let refused = c.in_err-interpolate.ensures in
     let z : ◌≡◌ {A = ℕ} 0 1 = cc in
     absurd (omega arith)
 
@@ -32,6 +32,6 @@ returns g c =
     let log_is : h.log_n ≡ log_of_n S = log_of_n_same h in
     let room : length c.args.out.now ≡ n S - 1 = omega arith in
     divides L S (head_fits h) ((theory L).roots (log_of_n S) (omega arith)) (position O c.args.used.now) (coefficient O c.args.values.now) c.requires.one c.requires.hold
-    c.write-left-sums.new.sums c.interpolate.new.out c.args.out.now c.square-upper.new.out c.square-upper.result
-    c.write-left-sums.ensures room c.in-ok-interpolate.ensures.1
-    (subst (λ u. UpperSquared O u c.args.out.now c.square-upper.new.out c.square-upper.result) c.new.ensures c.square-upper.ensures)
+    c.write_left_sums.new.sums c.interpolate.new.out c.args.out.now c.square_upper.new.out c.square_upper.result
+    c.write_left_sums.ensures room c.in_ok-interpolate.ensures.1
+    (subst (λ u. UpperSquared O u c.args.out.now c.square_upper.new.out c.square_upper.result) c.new.ensures c.square_upper.ensures)

@@ -6,11 +6,11 @@ use Rattle.square.specs.Rows.{position, first_failure, failing_row}
 use Rattle.square.proofs.FailingRow.{test, failure_next, failure_end}
 use Rattle.square.proofs.rows.failing_row.Goals as goal
 
-pub returns-then-not-row-holds : goal.returns-then-not-row-holds
-returns-then-not-row-holds g c =
+pub returns-then-not-row_holds : goal.returns-then-not-row_holds
+returns-then-not-row_holds g c =
     let O = g.F.Field.ops in
     let h = c.args.head.now in
-    sym (failure_next (test O (shape_of h) (position O c.args.used.now) (coefficient O c.args.values.now)) h.rows c.loop-i.i false (omega arith) c.if-not-row-holds.ensures)
+    sym (failure_next (test O (shape_of h) (position O c.args.used.now) (coefficient O c.args.values.now)) h.rows c.loop-i.i false (omega arith) c.if-not-row_holds.ensures)
     ∙ c.loop-i.invariant
 
 pub loop-i-init : goal.loop-i-init
@@ -25,7 +25,7 @@ pub loop-i-preserved : goal.loop-i-preserved
 loop-i-preserved g c =
     let O = g.F.Field.ops in
     let h = c.args.head.now in
-    sym (failure_next (test O (shape_of h) (position O c.args.used.now) (coefficient O c.args.values.now)) h.rows c.loop-i.i true (omega arith) c.if-not-row-holds.ensures)
+    sym (failure_next (test O (shape_of h) (position O c.args.used.now) (coefficient O c.args.values.now)) h.rows c.loop-i.i true (omega arith) c.if-not-row_holds.ensures)
     ∙ c.loop-i.invariant
 
 pub returns : goal.returns

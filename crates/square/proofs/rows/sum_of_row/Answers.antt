@@ -5,8 +5,8 @@ use Rattle.sheet.specs.Outcomes.{shape_of}
 use Rattle.square.proofs.Entries.{contribution, pass, pass_none, pass_more, dot_pass, inside_at}
 use Rattle.square.proofs.rows.sum_of_row.Goals as goal
 
-pub with-entry-sum-requires : goal.with-entry-sum-requires
-with-entry-sum-requires g c =
+pub with_entry-sum-requires : goal.with_entry-sum-requires
+with_entry-sum-requires g c =
     let inside = (inside_at (shape_of c.args.head.now) c.args.used.now c.loop-e.e-index c.e-item.result c.requires.inside c.loop-e-test.true).wire in
     omega (arith, inside, ap (λ e. e.wire) c.e-item.is, c.requires.places)
 
@@ -20,7 +20,7 @@ loop-e-preserved g c =
     let O = g.F.Field.ops in
     let z = coefficient O c.args.values.now in
     let so_far = pass O c.args.matrix c.args.row z (take c.loop-e.e-index c.args.used.now) in
-    c.with-entry-sum.ensures
+    c.with_entry-sum.ensures
     ∙ ap (λ s. O.add s (contribution O c.args.matrix c.args.row z c.e-item.result)) c.loop-e.invariant
     ∙ ap (λ e. O.add so_far (contribution O c.args.matrix c.args.row z e)) c.e-item.is
     ∙ sym (pass_more g.met.F.Field.laws c.args.matrix c.args.row z c.args.used.now c.loop-e.e-index c.e-item.result c.loop-e-test.true)

@@ -34,12 +34,12 @@ loop-t-preserved g c =
     let size : length (ahead O (columns S) f c.loop-t.from) ≡ length rest + 1 = ap length next ∙ omega arith in
     let bytes = little 4 t.wire ++ little 8 (numbered O p t.coefficient) in
     let room : c.loop-t.to + 12 ≤ length c.loop-t.out = omega (arith, size, c.loop-t.invariant.0) in
-    let written = put_same _ _ _ bytes c.loop-t.to (ap (λ v. little 4 t.wire ++ little 8 v) c.number-of.ensures) (c.put-item.ensures.0 room) in (
+    let written = put_same _ _ _ bytes c.loop-t.to (ap (λ v. little 4 t.wire ++ little 8 v) c.number_of.ensures) (c.put_item.ensures.0 room) in (
       omega (arith, size, c.loop-t.invariant.0),
       λ end h.
           c.loop-t.invariant.1 end
           (put_same _ _ _ _ c.loop-t.to (sym (ap (λ ts. item_bytes (items O p ts)) next ∙ items_first O p t rest))
-          (put_both c.loop-t.out c.put-item.new.out end bytes (item_bytes (items O p rest)) c.loop-t.to 12 (length_item _ _) room written h)),
+          (put_both c.loop-t.out c.put_item.new.out end bytes (item_bytes (items O p rest)) c.loop-t.to 12 (length_item _ _) room written h)),
     )
 
 pub returns : goal.returns
@@ -48,7 +48,7 @@ returns g c =
     let p = g.F.FileField.prime in
     let S = shape_of c.args.head.now in
     let f = combined O S (position O c.args.used.now) c.args.k.now in
-    let end = ahead_none O (columns S) f c.loop-t.from c.in-default.ensures in
+    let end = ahead_none O (columns S) f c.loop-t.from c.in_default.ensures in
     let size : length (ahead O (columns S) f c.loop-t.from) ≡ 0 = ap length end in
     record {
       place = omega (arith, size, c.loop-t.invariant.0);

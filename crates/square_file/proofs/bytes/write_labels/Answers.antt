@@ -12,8 +12,8 @@ pub loop-w-preserved : goal.loop-w-preserved
 loop-w-preserved c =
     let w = c.loop-w.w in
     let o = c.args.out.now in
-    let both = put_both o c.loop-w.out c.put-long.new.out (label_bytes w) (little 8 w) c.args.at (8 * w)
-    (length_labels w) (omega arith) c.loop-w.invariant (c.put-long.ensures.0 (omega arith)) in
+    let both = put_both o c.loop-w.out c.put_long.new.out (label_bytes w) (little 8 w) c.args.at (8 * w)
+    (length_labels w) (omega arith) c.loop-w.invariant (c.put_long.ensures.0 (omega arith)) in
     put_same o _ _ _ c.args.at (sym (labels_more w)) both
 
 pub returns : goal.returns

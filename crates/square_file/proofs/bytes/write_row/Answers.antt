@@ -11,24 +11,24 @@ use Rattle.square_file.proofs.TermLists.{terms_ext}
 use Rattle.square_file.proofs.RowLists.{row_parts, length_row, length_list}
 use Rattle.square_file.proofs.bytes.write_row.Goals as goal
 
-pub write-list-b-at-requires : goal.write-list-b-at-requires
-write-list-b-at-requires g c =
+pub write_list-b_at-requires : goal.write_list-b_at-requires
+write_list-b_at-requires g c =
     let O = g.F.Field.ops in
     let p = g.F.FileField.prime in
     let S = shape_of c.args.head.now in
     let t = position O c.args.used.now in
     omega (arith, length_row O p S t c.args.r, ap length (terms_ext O (columns S) 0 _ _ (c.left-left.ensures t)))
 
-pub write-list-c-at-requires : goal.write-list-c-at-requires
-write-list-c-at-requires g c =
+pub write_list-c_at-requires : goal.write_list-c_at-requires
+write_list-c_at-requires g c =
     let O = g.F.Field.ops in
     let p = g.F.FileField.prime in
     let S = shape_of c.args.head.now in
     let t = position O c.args.used.now in
-    omega (arith, length_row O p S t c.args.r, ap length (terms_ext O (columns S) 0 _ _ (c.left-left.ensures t)), c.write-list-b-at.ensures.place)
+    omega (arith, length_row O p S t c.args.r, ap length (terms_ext O (columns S) 0 _ _ (c.left-left.ensures t)), c.write_list-b_at.ensures.place)
 
-pub write-list-requires : goal.write-list-requires
-write-list-requires g c =
+pub write_list-requires : goal.write_list-requires
+write_list-requires g c =
     let O = g.F.Field.ops in
     let p = g.F.FileField.prime in
     let S = shape_of c.args.head.now in
@@ -38,8 +38,8 @@ write-list-requires g c =
       length_row O p S t c.args.r,
       ap length (terms_ext O (columns S) 0 _ _ (c.left-left.ensures t)),
       ap length (terms_ext O (columns S) 0 _ _ (c.right-right.ensures t)),
-      c.write-list-b-at.ensures.place,
-      c.write-list-c-at.ensures.place,
+      c.write_list-b_at.ensures.place,
+      c.write_list-c_at.ensures.place,
     )
 
 pub returns : goal.returns
@@ -56,20 +56,20 @@ returns g c =
     let b = list_bytes (items O p (right_terms O p S t r)) in
     let n = 4 + 12 * length (left_terms O p S t r) in
     let o = c.args.out.now in
-    let o1 = c.write-list-b-at.new.out in
-    let o2 = c.write-list-c-at.new.out in
-    let o3 = c.write-list.new.out in
+    let o1 = c.write_list-b_at.new.out in
+    let o2 = c.write_list-c_at.new.out in
+    let o3 = c.write_list.new.out in
     let row = length_row O p S t r in
     let len : length a ≡ n = length_list O p (left_terms O p S t r) in
-    let b_at : c.write-list-b-at.result ≡ at + n = c.write-list-b-at.ensures.place ∙ ap (λ ts. at + (4 + 12 * length ts)) left in
-    let c-at : c.write-list-c-at.result ≡ at + n + n = c.write-list-c-at.ensures.place ∙ ap (λ ts. c.write-list-b-at.result + (4 + 12 * length ts)) left ∙ ap (λ v. v + n) b_at in
-    let end : c.write-list.result ≡ at + n + n + (4 + 12 * length (right_terms O p S t r)) =
-    c.write-list.ensures.place ∙ ap (λ ts. c.write-list-c-at.result + (4 + 12 * length ts)) right ∙ ap (λ v. v + (4 + 12 * length (right_terms O p S t r))) c-at in
-    let p1 : Put o at a o1 = put_same _ _ _ _ at (ap (λ ts. list_bytes (items O p ts)) left) c.write-list-b-at.ensures.put in
-    let q2 : Put o1 c.write-list-b-at.result a o2 = put_same o1 o2 _ _ c.write-list-b-at.result (ap (λ ts. list_bytes (items O p ts)) left) c.write-list-c-at.ensures.put in
-    let q3 : Put o2 c.write-list-c-at.result b o3 = put_same o2 o3 _ _ c.write-list-c-at.result (ap (λ ts. list_bytes (items O p ts)) right) c.write-list.ensures.put in
+    let b_at : c.write_list-b_at.result ≡ at + n = c.write_list-b_at.ensures.place ∙ ap (λ ts. at + (4 + 12 * length ts)) left in
+    let c_at : c.write_list-c_at.result ≡ at + n + n = c.write_list-c_at.ensures.place ∙ ap (λ ts. c.write_list-b_at.result + (4 + 12 * length ts)) left ∙ ap (λ v. v + n) b_at in
+    let end : c.write_list.result ≡ at + n + n + (4 + 12 * length (right_terms O p S t r)) =
+    c.write_list.ensures.place ∙ ap (λ ts. c.write_list-c_at.result + (4 + 12 * length ts)) right ∙ ap (λ v. v + (4 + 12 * length (right_terms O p S t r))) c_at in
+    let p1 : Put o at a o1 = put_same _ _ _ _ at (ap (λ ts. list_bytes (items O p ts)) left) c.write_list-b_at.ensures.put in
+    let q2 : Put o1 c.write_list-b_at.result a o2 = put_same o1 o2 _ _ c.write_list-b_at.result (ap (λ ts. list_bytes (items O p ts)) left) c.write_list-c_at.ensures.put in
+    let q3 : Put o2 c.write_list-c_at.result b o3 = put_same o2 o3 _ _ c.write_list-c_at.result (ap (λ ts. list_bytes (items O p ts)) right) c.write_list.ensures.put in
     let p2 : Put o1 (at + n) a o2 = rw b_at at q2 in
-    let p3 : Put o2 (at + n + n) b o3 = rw c-at at q3 in
+    let p3 : Put o2 (at + n + n) b o3 = rw c_at at q3 in
     let p23 = put_both o1 o2 o3 a b (at + n) n len (omega (arith, row)) p2 p3 in
     record {
       place = omega (arith, end, row);

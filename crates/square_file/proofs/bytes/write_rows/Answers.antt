@@ -10,8 +10,8 @@ use Rattle.square_file.specs.SquareFile.{line}
 use Rattle.square_file.proofs.RowLists.{first_rows, no_rows, rows_more, length_more, rows_within}
 use Rattle.square_file.proofs.bytes.write_rows.Goals as goal
 
-pub write-row-to-requires : goal.write-row-to-requires
-write-row-to-requires g c =
+pub write_row-to-requires : goal.write_row-to-requires
+write_row-to-requires g c =
     let O = g.F.Field.ops in
     let p = g.F.FileField.prime in
     let h = c.args.head.now in
@@ -40,10 +40,10 @@ loop-r-preserved g c =
     let place : r + 1 + (n S - (r + 1)) ≡ n S = omega (arith, n_same h, c.n-r-end.ensures.is, c.loop-r-test.true) in
     let within : length (first_rows O p S t (r + 1)) ≤ length (first_rows O p S t (n S)) = rw place at (rows_within O p S t (n S - (r + 1)) (r + 1)) in
     let row = row_bytes (line O p S t r ∷ []) in
-    let at : Put c.loop-r.out (c.args.at + length (first_rows O p S t r)) row c.write-row-to.new.out = simp c.loop-r.invariant.0 at c.write-row-to.ensures.put in (
-      omega (arith, c.write-row-to.ensures.place, c.loop-r.invariant.0, length_more O p S t r),
+    let at : Put c.loop-r.out (c.args.at + length (first_rows O p S t r)) row c.write_row-to.new.out = simp c.loop-r.invariant.0 at c.write_row-to.ensures.put in (
+      omega (arith, c.write_row-to.ensures.place, c.loop-r.invariant.0, length_more O p S t r),
       put_same o _ _ _ c.args.at (sym (rows_more O p S t r))
-          (put_both o c.loop-r.out c.write-row-to.new.out (first_rows O p S t r) row c.args.at (length (first_rows O p S t r)) refl (omega (arith, within, length_more O p S t r)) c.loop-r.invariant.1 at),
+          (put_both o c.loop-r.out c.write_row-to.new.out (first_rows O p S t r) row c.args.at (length (first_rows O p S t r)) refl (omega (arith, within, length_more O p S t r)) c.loop-r.invariant.1 at),
     )
 
 pub returns : goal.returns

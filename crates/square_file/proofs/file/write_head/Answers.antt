@@ -6,5 +6,5 @@ use Rattle.square_file.proofs.file.write_head.Goals as goal
 
 pub returns : goal.returns
 returns c =
-    put_both c.args.out.now c.put-word.new.out c.put-long.new.out (little 4 c.args.kind) (little 8 c.args.size) c.args.at 4
-    (length_little 4 c.args.kind) (omega arith) (c.put-word.ensures.0 (omega arith)) (c.put-long.ensures.0 (omega arith))
+    put_both c.args.out.now c.put_word.new.out c.put_long.new.out (little 4 c.args.kind) (little 8 c.args.size) c.args.at 4
+    (length_little 4 c.args.kind) (omega arith) (c.put_word.ensures.0 (omega arith)) (c.put_long.ensures.0 (omega arith))

@@ -8,17 +8,17 @@ use Rattle.square_file.proofs.Cases.{cases_none}
 use Rattle.square_file.proofs.RowLists.{first_rows, no_rows, length_more, plain_none, plain_more, plain_fails}
 use Rattle.square_file.proofs.measure.rows_size.Goals as goal
 
-pub returns-in-err-size : goal.returns-in-err-size
-returns-in-err-size g c =
+pub returns-in_err-size : goal.returns-in_err-size
+returns-in_err-size g c =
     let O = g.F.Field.ops in
     let p = g.F.FileField.prime in
     let h = c.args.head.now in
     let S = shape_of h in
     let t = position O c.args.used.now in
     let r = c.loop-r.r in
-    let fails : plain_rows O p S t (r + 1) ≡ false = plain_more O p S t r ∙ ap₂ ◌&&◌ c.loop-r.invariant.0 c.in-err-size.ensures in
+    let fails : plain_rows O p S t (r + 1) ≡ false = plain_more O p S t r ∙ ap₂ ◌&&◌ c.loop-r.invariant.0 c.in_err-size.ensures in
     let place : r + 1 + (n S - (r + 1)) ≡ n S = omega (arith, n_same h, c.n-r-end.ensures.is, c.loop-r-test.true) in
-    cases_none c.from-residual.result _ _ c.from-residual.ensures
+    cases_none c.from_residual.result _ _ c.from_residual.ensures
     (ap (plain_rows O p S t) (sym place) ∙ plain_fails O p S t (n S - (r + 1)) (r + 1) fails)
 
 pub loop-r-init : goal.loop-r-init
@@ -36,7 +36,7 @@ loop-r-preserved g c =
     let S = shape_of c.args.head.now in
     let t = position O c.args.used.now in
     let r = c.loop-r.r in
-    let row = c.in-ok-size.ensures in (
+    let row = c.in_ok-size.ensures in (
       plain_more O p S t r ∙ ap₂ ◌&&◌ c.loop-r.invariant.0 row.0,
       omega (arith, c.loop-r.invariant.1, row.1, length_more O p S t r),
       omega (arith, c.loop-r.invariant.2, row.2),

@@ -23,7 +23,7 @@ returns-then-out-length g c =
     let count : c.used.result - 0 ≡ h.used = omega (arith, c.used.ensures) in
     let rows = c.in-Some.ensures in
     let size = length_file O p S (position O used) in
-    let due = too_short O p S used (length all) (length c.args.out.now) (omega arith) (sym c.if-not-are-inside.ensures) rows.0
+    let due = too_short O p S used (length all) (length c.args.out.now) (omega arith) (sym c.if-not-are_inside.ensures) rows.0
     (omega (arith, size, rows.1, columns_same h, c.columns.ensures.is, c.if-out-length.true)) in
     let told = c.at-then-out-length.ensures in
     record {
@@ -49,17 +49,17 @@ returns g c =
     let size = length_file O p S t in
     let k : ℕ = 88 + c.in-Some.size + 8 * c.columns.result in
     let long : k ≡ length (square_file_bytes O p S t) = omega (arith, size, rows.1, columns_same h, c.columns.ensures.is) in
-    let due = nothing_due O p S used (length all) (length out) (omega arith) (sym c.if-not-are-inside.ensures) rows.0 (omega (arith, long, c.if-out-length.false)) in
-    let whole : c.write-file.new.out ≡ square_file_bytes O p S t ++ drop k out =
-    c.write-file.ensures.file ∙ ap (λ m. square_file_bytes O p S t ++ drop (88 + c.in-Some.size + 8 * m) out) (sym c.columns.ensures.is) in
+    let due = nothing_due O p S used (length all) (length out) (omega arith) (sym c.if-not-are_inside.ensures) rows.0 (omega (arith, long, c.if-out-length.false)) in
+    let whole : c.write_file.new.out ≡ square_file_bytes O p S t ++ drop k out =
+    c.write_file.ensures.file ∙ ap (λ m. square_file_bytes O p S t ++ drop (88 + c.in-Some.size + 8 * m) out) (sym c.columns.ensures.is) in
     let coded : Encodes (square_file_bytes O p S t) p (square_circuit O p S t) =
-    encodes O p S t c.write-file.ensures.small
+    encodes O p S t c.write_file.ensures.small
     (omega (arith, h.wires_most, h.publics_most, h.rows_most))
     (omega (arith, n_same h, h.n_most))
     h.publics_some h.publics_within
     (omega (arith, rows.1, rows.2)) rows.0 in
-    let start : take k c.write-file.new.out ≡ square_file_bytes O p S t = ap (λ l. take k l) whole ∙ front O p S t out k k long in
-    let read : Encodes (take k c.write-file.new.out) p (square_circuit O p S t) = rw start coded in
+    let start : take k c.write_file.new.out ≡ square_file_bytes O p S t = ap (λ l. take k l) whole ∙ front O p S t out k k long in
+    let read : Encodes (take k c.write_file.new.out) p (square_circuit O p S t) = rw start coded in
     record {
       written = (
         ap (λ j. square_file_due O p S (length all) (length out) (take j all)) (sym count) ∙ due,

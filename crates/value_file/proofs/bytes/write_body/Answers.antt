@@ -16,9 +16,9 @@ returns g c =
     let vs = c.args.values.now in
     let bs = value_bytes (numbers O p vs) in
     let o = c.args.out.now in
-    let o1 = c.put-word.new.out in
-    let o2 = c.put-long.new.out in
-    let o3 = c.write-numbers.new.out in
+    let o1 = c.put_word.new.out in
+    let o2 = c.put_long.new.out in
+    let o3 = c.write_numbers.new.out in
     let size = ap (little 8) (sym (length_numbers O p vs)) in
-    let p44 = put_both o1 o2 o3 (little 8 (length bs)) bs 44 8 (length_little 8 (length bs)) (omega arith) (put_same o1 o2 _ _ 44 size (c.put-long.ensures.0 (omega arith))) c.write-numbers.ensures in
-    put_both o o1 o3 (little 4 2) (little 8 (length bs) ++ bs) 40 4 (length_little 4 2) (omega arith) (c.put-word.ensures.0 (omega arith)) p44
+    let p44 = put_both o1 o2 o3 (little 8 (length bs)) bs 44 8 (length_little 8 (length bs)) (omega arith) (put_same o1 o2 _ _ 44 size (c.put_long.ensures.0 (omega arith))) c.write_numbers.ensures in
+    put_both o o1 o3 (little 4 2) (little 8 (length bs) ++ bs) 40 4 (length_little 4 2) (omega arith) (c.put_word.ensures.0 (omega arith)) p44

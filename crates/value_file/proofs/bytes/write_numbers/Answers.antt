@@ -21,9 +21,9 @@ loop-i-preserved g c =
     let x = c.index-values-i.result in
     let o = c.args.out.now in
     let h : i ≤ length vs = omega arith in
-    let word : little 8 c.number-of.result ≡ little 8 (numbered O p x) = ap (little 8) c.number-of.ensures in
-    let last = put_same _ _ _ _ (c.args.at + 8 * i) word (c.put-long.ensures.0 (omega arith)) in
-    let both = put_both o c.loop-i.out c.put-long.new.out (value_bytes (numbers O p (take i vs))) (little 8 (numbered O p x)) c.args.at (8 * i)
+    let word : little 8 c.number_of.result ≡ little 8 (numbered O p x) = ap (little 8) c.number_of.ensures in
+    let last = put_same _ _ _ _ (c.args.at + 8 * i) word (c.put_long.ensures.0 (omega arith)) in
+    let both = put_both o c.loop-i.out c.put_long.new.out (value_bytes (numbers O p (take i vs))) (little 8 (numbered O p x)) c.args.at (8 * i)
     (length_front O p vs i h) (omega arith) c.loop-i.invariant last in
     put_same o _ _ _ c.args.at (sym (numbers_more O p vs i x c.loop-i-test.true c.index-values-i.is)) both
 

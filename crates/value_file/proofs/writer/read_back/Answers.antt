@@ -14,10 +14,10 @@ returns g c =
     let p = g.F.FileField.prime in
     let vs = c.args.extended.now in
     let S = shape_of c.args.head.now in
-    let size = c.in-ok-size.size in
-    let w = c.in-ok-size.ensures in
+    let size = c.in_ok-size.size in
+    let w = c.in_ok-size.ensures in
     let places : columns S ≡ length c.args.table.now = omega arith in
-    let file : Encodes (take (size - 0) c.write-values.new.out) p (length c.args.table.now) (numbers O p vs) = rw (sub-zero, ← places) w.reads.0 in
+    let file : Encodes (take (size - 0) c.write_values.new.out) p (length c.args.table.now) (numbers O p vs) = rw (sub-zero, ← places) w.reads.0 in
     let out = w.written.1.1 ∙ ap (λ n. value_file_bytes O p vs ++ drop n c.args.out.now) w.written.1.0 in
     MatchResult-weaker c.read.result c.read.ensures.assignment
     (λ _ h. (rw (eq-eqb _ _ (sym places)) w.written.0, (out, h.1 (numbers O p vs) file ∙ w.reads.1)))

@@ -15,7 +15,7 @@ returns-then-out-size g c =
     let vs = c.args.extended.now in
     let S = shape_of c.args.head.now in
     let first = starts O p S vs c.index-extended-0.result c.one.result (omega arith) c.index-extended-0.is c.one.ensures c.if-not-same.ensures in
-    let due = too_short O p S vs (omega arith) first (sym c.if-not-are-plain.ensures) (length c.args.out.now) (omega arith) in
+    let due = too_short O p S vs (omega arith) first (sym c.if-not-are_plain.ensures) (length c.args.out.now) (omega arith) in
     record { written = (due ∙ sym (told_at _ _ _ c.at-then-out-size.ensures), refl); reads = tt }
 
 pub returns : goal.returns
@@ -27,12 +27,12 @@ returns g c =
     let n = 52 + 8 * length vs in
     let size : length vs ≡ columns S = omega arith in
     let first = starts O p S vs c.index-extended-0.result c.one.result (omega arith) c.index-extended-0.is c.one.ensures c.if-not-same.ensures in
-    let plain = sym c.if-not-are-plain.ensures in
+    let plain = sym c.if-not-are_plain.ensures in
     let due = nothing_due O p S vs size first plain (length c.args.out.now) (omega arith) in
     let long : n ≡ length (value_file_bytes O p vs) = sym (length_file O p vs) in
-    let there = ap (λ l. take n l) c.write-file.ensures ∙ front O p vs c.args.out.now n n long in
-    let file = encodes O p g.met.F.Field.laws c.prime.ensures.distinct (omega (arith, c.prime.ensures.value, c.prime.type-inv)) vs (columns S) size (omega arith) (omega arith) (starts_one O p S vs first) plain in
+    let there = ap (λ l. take n l) c.write_file.ensures ∙ front O p vs c.args.out.now n n long in
+    let file = encodes O p g.met.F.Field.laws c.prime.ensures.distinct (omega (arith, c.prime.ensures.value, c.prime.type_inv)) vs (columns S) size (omega arith) (omega arith) (starts_one O p S vs first) plain in
     record {
-      written = (due, (long, c.write-file.ensures));
+      written = (due, (long, c.write_file.ensures));
       reads = (rw there file, (numbers_right O p vs plain).1);
     }

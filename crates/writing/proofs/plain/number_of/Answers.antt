@@ -4,4 +4,4 @@ use Rattle.writing.proofs.plain.number_of.Goals as goal
 
 pub returns : goal.returns
 unfolding numbered
-returns g c = c.unwrap-or.ensures ∙ ap (λ o. unwrap_or o 0) c.plain-number.ensures
+returns g c = c.unwrap_or.ensures ∙ ap (λ o. unwrap_or o 0) c.plain_number.ensures

@@ -11,13 +11,13 @@ returns-then-left-eq0 c =
       read = λ ls h. none_left _ ls h (omega (arith, c.then-left-eq0.either, h.size, h.within));
     }
 
-pub returns-in-default : goal.returns-in-default
-returns-in-default c =
+pub returns-in_default : goal.returns-in_default
+returns-in_default c =
     record {
       kept = refl;
-      row = (refl, λ h. omega (arith, h.inside, c.in-default.ensures));
+      row = (refl, λ h. omega (arith, h.inside, c.in_default.ensures));
       read = λ ls h. none_left _ ls h (elim (cases_lt 0 c.args.self.now.left) [
-        | inl f ↦ omega (arith, there _ ls h f, c.in-default.ensures)
+        | inl f ↦ omega (arith, there _ ls h f, c.in_default.ensures)
         | inr f ↦ omega arith
       ]);
     }

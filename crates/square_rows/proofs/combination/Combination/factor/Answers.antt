@@ -11,7 +11,7 @@ returns-in-1 g c = factor_b g.met.F.Field.laws c.args.self.now c.args.matrix (om
 pub returns-in-2 : goal.returns-in-2
 returns-in-2 g c = factor_c g.met.F.Field.laws c.args.self.now c.args.matrix (omega arith)
 
-pub returns-in-default : goal.returns-in-default
-returns-in-default g c =
+pub returns-in_default : goal.returns-in_default
+returns-in_default g c =
     c.zero.ensures
     ∙ factor_none g.met.F.Field.laws c.args.self.now c.args.matrix (λ e. omega arith) (λ e. omega arith) (λ e. omega arith)

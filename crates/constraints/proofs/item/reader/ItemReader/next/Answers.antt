@@ -3,9 +3,9 @@ use Rattle.frames.specs.Little.{le4, le8}
 use Rattle.constraints.proofs.Handed.{item_first, no_item}
 use Rattle.constraints.proofs.item.reader.ItemReader.next.Goals as goal
 
-pub returns-in-default : goal.returns-in-default
-returns-in-default c =
-    let h = c.in-default.ensures in
+pub returns-in_default : goal.returns-in_default
+returns-in_default c =
+    let h = c.in_default.ensures in
     record {
       bytes = (h, refl);
       items = λ is a e. let n = no_item is (omega (arith, h, ap length e)) in (n.0, e ∙ n.1);

@@ -12,5 +12,5 @@ returns-in-0 c = record {
   faithful = lone_coordinate residues12289;
 }
 
-pub returns-in-default : goal.returns-in-default
-returns-in-default c = record { value = search rules; number = tt; complete = λ _. refl; faithful = lone_coordinate residues12289 }
+pub returns-in_default : goal.returns-in_default
+returns-in_default c = record { value = search rules; number = tt; complete = λ _. refl; faithful = lone_coordinate residues12289 }
