@@ -80,7 +80,7 @@ module _ {p : ℕ} {R : Type 0} {value : R → ℕ} {O : Operations R} (m : Resi
         ∙ sym (add-mod-mod (value x) (value y + value z) p)
         ∙ ap (λ (n : ℕ). (value x + n) % p) (sym (m.add_is y z))
         ∙ sym (m.add_is x (add y z)));
-    add-zero = λ x. m.only _ _ (m.add_is x zero ∙ ap (λ (n : ℕ). (value x + n) % p) m.zero_is ∙ ap (λ (n : ℕ). n % p) (add-zero (value x)) ∙ small x);
+    add_zero = λ x. m.only _ _ (m.add_is x zero ∙ ap (λ (n : ℕ). (value x + n) % p) m.zero_is ∙ ap (λ (n : ℕ). n % p) (add-zero (value x)) ∙ small x);
     add_neg = λ x. m.only _ _
         (m.add_is x (neg x)
         ∙ ap (λ (n : ℕ). (value x + n) % p) (m.neg_is x)
@@ -97,8 +97,8 @@ module _ {p : ℕ} {R : Type 0} {value : R → ℕ} {O : Operations R} (m : Resi
         ∙ sym (mul_mod_mod (value x) (value y * value z) p)
         ∙ ap (λ (n : ℕ). (value x * n) % p) (sym (m.mul_is y z))
         ∙ sym (m.mul_is x (mul y z)));
-    mul-one = λ x. m.only _ _ (m.mul_is x one ∙ ap (λ (n : ℕ). (value x * n) % p) m.one_is ∙ ap (λ (n : ℕ). n % p) (mul-one (value x)) ∙ small x);
-    mul-add = λ x y z. m.only _ _
+    mul_one = λ x. m.only _ _ (m.mul_is x one ∙ ap (λ (n : ℕ). (value x * n) % p) m.one_is ∙ ap (λ (n : ℕ). n % p) (mul-one (value x)) ∙ small x);
+    mul_add = λ x y z. m.only _ _
         (m.mul_is x (add y z)
         ∙ ap (λ (n : ℕ). (value x * n) % p) (m.add_is y z)
         ∙ mul_mod_mod (value x) (value y + value z) p

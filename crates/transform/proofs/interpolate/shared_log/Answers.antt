@@ -9,7 +9,7 @@ pub returns-then-is_power_of_two : goal.returns-then-is_power_of_two
 returns-then-is_power_of_two c =
     let n = c.args.values in
     let power : is_power_of_two n ≡ true = sym (power_of_two_ones n) ∙ sym c.if-is_power_of_two.ensures in
-    let log = log2_is n c.ilog2.result c.ilog2.ensures.power_le c.ilog2.ensures.next-power-gt in
+    let log = log2_is n c.ilog2.result c.ilog2.ensures.power_le c.ilog2.ensures.next_power_gt in
     let granted = and_from (eqb n c.args.out) (is_power_of_two n) (eq-eqb _ _ c.if-values-out.true) power in
     let size = eqb-true _ _ power ∙ ap (λ e. 2 ^ e) log in
     (rw granted, (size, sym c.if-values-out.true ∙ size, sym log))
