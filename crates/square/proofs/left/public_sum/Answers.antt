@@ -27,9 +27,9 @@ returns g c =
       | then-t-eq0 w ↦
           let one = get_or_read vs 0 _ (omega arith) w.index-values-0.is O.zero in
           let is = left_plus L (shape_of h) (head_fits h) (position O []) (coefficient O vs) c.args.t (omega arith) w.if-t-eq0.true in
-          cc w.one_is
+          cc w.one-is
       | else-t-eq0 w ↦
           let one = get_or_read vs 0 _ (omega arith) w.index-values-0-else-t-eq0.is O.zero in
           let is = left_minus L (shape_of h) (head_fits h) (position O []) (coefficient O vs) c.args.t (omega arith) w.if-t-eq0.false in
-          cc (w.one_is, w.neg-one.ensures)
+          cc (w.one-is, w.neg-one.ensures)
     ]
