@@ -20,10 +20,10 @@ returns-then-wire-publics g c =
     let k = c.args.self.now in
     let e = c.args.e in
     record {
-      within = (omega (arith, c.wire-from.ensures.within), omega (arith, c.wire-from.ensures.within));
+      within = (omega (arith, c.wire_from.ensures.within), omega (arith, c.wire_from.ensures.within));
       passed = λ w a b.
           weighted_here L S k w e (omega arith) (omega arith)
-          ∙ sym (none_private L S _ e.wire w (omega arith) (λ z. c.wire-from.ensures.passed w a b (sym z)));
+          ∙ sym (none_private L S _ e.wire w (omega arith) (λ z. c.wire_from.ensures.passed w a b (sym z)));
     }
 
 pub returns : goal.returns
@@ -36,5 +36,5 @@ returns g c =
       within = (omega arith, omega arith);
       passed = λ w a b.
           weighted_here L S k w e (omega arith) (omega arith)
-          ∙ sym (none_public L S _ e.wire w (omega arith) (λ z. c.wire-from-2.ensures.passed w a (omega arith) (omega arith)) (λ z. c.wire-from-3.ensures.passed w a (omega arith) (omega arith)));
+          ∙ sym (none_public L S _ e.wire w (omega arith) (λ z. c.wire_from-2.ensures.passed w a (omega arith) (omega arith)) (λ z. c.wire_from-3.ensures.passed w a (omega arith) (omega arith)));
     }

@@ -22,9 +22,9 @@ loop-at-preserved g c =
     let O = g.F.Field.ops in
     let f : ℕ → g.row.F.Denot = combined O (shape_of c.args.head.now) (position O c.args.used.now) c.args.self.now in
     let zero = same_true O _ _ _ c.same.ensures c.if-not-same.false in (
-      omega (arith, c.wire-after-wire.ensures.within),
-      more f O.zero c.args.from c.wire-after-wire.result
-          (both f O.zero c.args.from c.loop-at.at c.wire-after-wire.result c.loop-at.invariant.1 c.wire-after-wire.ensures.passed)
+      omega (arith, c.wire_after-wire.ensures.within),
+      more f O.zero c.args.from c.wire_after-wire.result
+          (both f O.zero c.args.from c.loop-at.at c.wire_after-wire.result c.loop-at.invariant.1 c.wire_after-wire.ensures.passed)
           (sym c.coefficient-coefficient.ensures ∙ zero ∙ c.zero.ensures),
     )
 
@@ -32,18 +32,18 @@ pub returns-then-wire-stop : goal.returns-then-wire-stop
 returns-then-wire-stop g c =
     let O = g.F.Field.ops in
     let f : ℕ → g.row.F.Denot = combined O (shape_of c.args.head.now) (position O c.args.used.now) c.args.self.now in
-    λ w a b. both f O.zero c.args.from c.loop-at.at c.wire-after-wire.result c.loop-at.invariant.1 c.wire-after-wire.ensures.passed w a (omega arith)
+    λ w a b. both f O.zero c.args.from c.loop-at.at c.wire_after-wire.result c.loop-at.invariant.1 c.wire_after-wire.ensures.passed w a (omega arith)
 
 pub returns-then-not-same : goal.returns-then-not-same
 returns-then-not-same g c =
     let O = g.F.Field.ops in
     let f : ℕ → g.row.F.Denot = combined O (shape_of c.args.head.now) (position O c.args.used.now) c.args.self.now in
     let other = same_false O _ _ _ c.same.ensures c.if-not-same.true in (
-      omega (arith, c.wire-after-wire.ensures.within),
-      omega (arith, c.wire-after-wire.ensures.within),
+      omega (arith, c.wire_after-wire.ensures.within),
+      omega (arith, c.wire_after-wire.ensures.within),
       c.coefficient-coefficient.ensures,
       (λ e. other (e ∙ sym c.zero.ensures)),
-      both f O.zero c.args.from c.loop-at.at c.wire-after-wire.result c.loop-at.invariant.1 c.wire-after-wire.ensures.passed,
+      both f O.zero c.args.from c.loop-at.at c.wire_after-wire.result c.loop-at.invariant.1 c.wire_after-wire.ensures.passed,
     )
 
 pub returns : goal.returns

@@ -8,9 +8,9 @@ use Rattle.square_rows.proofs.combination.Combination.wire_after.Goals as goal
 
 pub loop-e-init : goal.loop-e-init
 loop-e-init g c = (
-  omega (arith, c.wire-from.ensures.within, c.wire-from-2.ensures.within),
-  omega (arith, c.wire-from.ensures.within, c.wire-from-2.ensures.within, c.columns-stop.ensures.is),
-  λ w a b. own_none g.met.F.Field.laws (shape_of c.args.head.now) c.args.self.now w (c.wire-from.ensures.passed w a (omega arith)) (c.wire-from-2.ensures.passed w a (omega arith)),
+  omega (arith, c.wire_from.ensures.within, c.wire_from-2.ensures.within),
+  omega (arith, c.wire_from.ensures.within, c.wire_from-2.ensures.within, c.columns-stop.ensures.is),
+  λ w a b. own_none g.met.F.Field.laws (shape_of c.args.head.now) c.args.self.now w (c.wire_from.ensures.passed w a (omega arith)) (c.wire_from-2.ensures.passed w a (omega arith)),
 )
 
 pub loop-e-preserved : goal.loop-e-preserved
@@ -23,7 +23,7 @@ loop-e-preserved g c =
       λ w a b.
           combined_more g.met.F.Field.laws S k w c.args.used.now c.loop-e.e-index c.e-item.result c.loop-e-test.true
           (c.loop-e.invariant.2 w a (omega arith))
-          (ap (λ e. weighted O S (position O (e ∷ [])) k w) (sym c.e-item.is) ∙ c.entry-from.ensures.passed w a (omega arith)),
+          (ap (λ e. weighted O S (position O (e ∷ [])) k w) (sym c.e-item.is) ∙ c.entry_from.ensures.passed w a (omega arith)),
     )
 
 pub returns : goal.returns
