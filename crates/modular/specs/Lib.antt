@@ -1,5 +1,2 @@
 pub mod Residues
 pub mod Field97
-pub mod Laws97
-pub mod Modular
-pub mod Below

@@ -1,2 +1,4 @@
+pub mod Norm
+pub mod Doubling
 pub mod Interleaving
 pub mod Coordinates

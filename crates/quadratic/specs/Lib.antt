@@ -1,4 +1,2 @@
 pub mod Doubled
 pub mod Interleave
-pub mod Doubling
-pub mod Norm

@@ -1,1 +1,2 @@
+pub mod Laws12289
 pub mod ByLogs

@@ -1,2 +1,1 @@
 pub mod Field12289
-pub mod Laws12289
