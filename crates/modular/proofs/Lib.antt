@@ -1,4 +1,1 @@
-pub mod Modular
-pub mod Below
-pub mod Laws97
 pub mod Tables97

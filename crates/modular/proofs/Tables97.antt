@@ -4,9 +4,9 @@ use mir.Syntax.{Const, c_int, c_bool, c_float, c_unit, c_ints, c_repeat, c_parts
 use Rattle.field.specs.Operations.{root_of_order}
 use Rattle.modular.specs.declared.f97.F97.{F97}
 use Rattle.modular.specs.Field97.{only97, element97, ops97}
-use Rattle.modular.proofs.Modular.{power_is}
-use Rattle.modular.proofs.Laws97.{residues97}
-use Rattle.modular.proofs.Below.{every, at}
+use Rattle.modular.specs.Modular.{power_is}
+use Rattle.modular.specs.Laws97.{residues97}
+use Rattle.modular.specs.Below.{every, at}
 
 -- the numbers of a constant that is an array of numbers
 abbrev pub numbers : Const → List ℕ

@@ -1,2 +1,5 @@
 pub mod Residues
 pub mod Field97
+pub mod Laws97
+pub mod Modular
+pub mod Below

@@ -3,7 +3,7 @@ use Rattle.std.proofs.Common.{◌≡◌, ℕ, zero, suc, ◌+◌, ◌-◌, ◌*�
 use mathlib.Core.Logic.{dite}
 use native.Mathlib.Nat.{pow-zero, mod-add-div, add-mod_left}
 use native.Mathlib.Decide.{dec_le}
-use Rattle.modular.proofs.Modular.{mul_mod_mod, mod_mul_mod}
+use Rattle.modular.specs.Modular.{mul_mod_mod, mod_mul_mod}
 
 pub pow_mul : (b m n : ℕ) → (b ^ m) ^ n ≡ b ^ (m * n)
 pow_mul b m zero = pow-zero (b ^ m) ∙ sym (ap (λ (x : ℕ). b ^ x) (mul-zero m) ∙ pow-zero b)

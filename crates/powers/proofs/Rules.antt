@@ -1,7 +1,7 @@
 -- The rules of the two tables, each from one test over the whole table: its two halves, one after the other.
 use Rattle.std.proofs.Common.{◌≡◌, ℕ, zero, suc, ◌+◌, ◌-◌, ◌*◌, ◌/◌, ◌%◌, ◌^◌, ◌<◌, ◌≤◌, Bool, T, eqb, ltb, List, ◌++◌, length, get_or, sym, refl, ap, ◌∙◌, subst, le_of_suc-le-suc, not-suc-le-zero, mod-lt, one-mul, zero-mul, arith, lit<, eqb→eq, ltb→lt, length-append}
 use Rattle.std.proofs.lemmas.List.{get_or_append_left, get_or-append_right}
-use Rattle.modular.proofs.Below.{both, both_left, both_right}
+use Rattle.modular.specs.Below.{both, both_left, both_right}
 use Rattle.powers.specs.Logarithm.{Logarithm}
 use Rattle.powers.proofs.Cycle.{split_pow, cycle, inverse, distinct}
 use Rattle.powers.proofs.Walk.{each, each_at, grows, grows_at, misses_one, misses_at}

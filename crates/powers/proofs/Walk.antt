@@ -1,8 +1,8 @@
 -- Tests along a list, which the checker computes entry by entry, and the rule that each shows at every place.
 use Rattle.std.proofs.Common.{◌≡◌, ℕ, zero, suc, ◌+◌, ◌*◌, ◌%◌, ◌^◌, ◌<◌, Bool, true, not, T, eqb, List, [], ◌∷◌, length, get_or, sym, ap, ◌∙◌, subst, le_of_suc-le-suc, not-suc-le-zero, add-zero, add-suc, mul_assoc, suc-add, mul-one, eqb→eq, T_not}
 use native.Mathlib.Nat.{pow-zero, pow-succ'}
-use Rattle.modular.proofs.Modular.{mod_mul_mod}
-use Rattle.modular.proofs.Below.{both, both_left, both_right}
+use Rattle.modular.specs.Modular.{mod_mul_mod}
+use Rattle.modular.specs.Below.{both, both_left, both_right}
 
 -- the test passes at each entry and its place, counted from i
 abbrev pub each : (ℕ → ℕ → Bool) → ℕ → List ℕ → Bool

@@ -5,7 +5,7 @@ use Rattle.field.specs.Laws.{Laws}
 use Rattle.quadratic.specs.declared.quadratic.Quadratic.{Quadratic}
 use Rattle.quadratic.specs.Doubled.{both, doubled}
 use Rattle.quadratic.specs.Interleave.{interleave}
-use Rattle.quadratic.proofs.Doubling.{ones_below}
+use Rattle.quadratic.specs.Doubling.{ones_below}
 use Rattle.quadratic.proofs.Interleaving.{interleave_length, interleave_even, interleave_odd, interleave_injective}
 
 -- what is known of an answer, made weaker in both cases

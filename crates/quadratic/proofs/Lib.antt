@@ -1,4 +1,2 @@
-pub mod Norm
-pub mod Doubling
 pub mod Interleaving
 pub mod Coordinates

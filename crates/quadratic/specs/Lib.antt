@@ -1,2 +1,4 @@
 pub mod Doubled
 pub mod Interleave
+pub mod Doubling
+pub mod Norm

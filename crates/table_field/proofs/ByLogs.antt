@@ -7,13 +7,13 @@ use native.Mathlib.Omega.{arith}
 use lib.Pow.{pow_mono}
 use Rattle.field.specs.Operations.{root_of_order}
 use Rattle.field.proofs.Cancel.{inverse_unique}
-use Rattle.modular.proofs.Modular.{power_is}
+use Rattle.modular.specs.Modular.{power_is}
 use Rattle.powers.specs.Logarithm.{Logarithm}
 use Rattle.powers.proofs.Cycle.{pow_mul, product, inverse}
 use Rattle.powers.proofs.Rules.{turn, never_zero}
 use Rattle.table_field.specs.declared.f12289.F12289.{F12289}
 use Rattle.table_field.specs.Field12289.{only12289, element12289, ops12289}
-use Rattle.table_field.proofs.Laws12289.{residues12289, laws12289}
+use Rattle.table_field.specs.Laws12289.{residues12289, laws12289}
 
 -- zero is the one element without a logarithm
 pub no_log : (a : F12289) → (a.value ≡ 0) ⊎ (12289 ≤ a.value) → a ≡ element12289 0

@@ -1,2 +1,1 @@
-pub mod Laws12289
 pub mod ByLogs

@@ -1,1 +1,2 @@
 pub mod Field12289
+pub mod Laws12289

@@ -1,7 +1,7 @@
 // The field of 97 elements.
 ghost use Rattle.std.specs.Prelude.{◌≡◌, ◌%◌};
 ghost use Rattle.modular.specs.Field97.{element97, ops97};
-ghost use Rattle.modular.proofs.Laws97.{laws97};
+ghost use Rattle.modular.specs.Laws97.{laws97};
 
 use crate::f97::F97;
 use field::field::Field;

@@ -1,7 +1,7 @@
 // The field of the elements a + bθ.
 ghost use Rattle.std.specs.Prelude.{◌≡◌};
 ghost use Rattle.quadratic.specs.Doubled.{pair, doubled};
-ghost use Rattle.quadratic.proofs.Doubling.{doubled_laws};
+ghost use Rattle.quadratic.specs.Doubling.{doubled_laws};
 
 use crate::quadratic::Quadratic;
 use field::field::Field;

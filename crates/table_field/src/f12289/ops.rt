@@ -1,7 +1,7 @@
 // The field of 12289 elements. 11 generates all but zero, so they multiply as their logarithms add.
 ghost use Rattle.std.specs.Prelude.{◌≡◌};
 ghost use Rattle.table_field.specs.Field12289.{element12289, ops12289};
-ghost use Rattle.table_field.proofs.Laws12289.{laws12289};
+ghost use Rattle.table_field.specs.Laws12289.{laws12289};
 
 use crate::f12289::F12289;
 use field::field::Field;

@@ -1,4 +1,4 @@
-use Rattle.quadratic.proofs.Doubling.{norm_zero, norm_of_zero}
+use Rattle.quadratic.specs.Doubling.{norm_zero, norm_of_zero}
 use Rattle.quadratic.proofs.quadratic.ops.QuadraticField.inverse.Goals as goal
 
 pub returns-in-Some : goal.returns-in-Some

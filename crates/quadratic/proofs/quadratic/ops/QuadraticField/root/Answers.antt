@@ -1,5 +1,5 @@
 use Rattle.std.proofs.Common.{arith}
-use Rattle.quadratic.proofs.Doubling.{root_below, root_θ}
+use Rattle.quadratic.specs.Doubling.{root_below, root_θ}
 use Rattle.quadratic.proofs.quadratic.ops.QuadraticField.root.Goals as goal
 
 pub returns-in-Some : goal.returns-in-Some

@@ -1,7 +1,7 @@
 use mathlib.Core.Path.{refl}
 use borrow.Author.Rules.{rules}
-use Rattle.modular.proofs.Modular.{is_number, lone_coordinate}
-use Rattle.table_field.proofs.Laws12289.{residues12289}
+use Rattle.modular.specs.Modular.{is_number, lone_coordinate}
+use Rattle.table_field.specs.Laws12289.{residues12289}
 use Rattle.table_field.proofs.f12289.file.F12289FileField.coordinate.Goals as goal
 
 pub returns-in-0 : goal.returns-in-0

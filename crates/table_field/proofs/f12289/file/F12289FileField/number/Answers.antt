@@ -1,5 +1,5 @@
-use Rattle.modular.proofs.Modular.{is_number}
-use Rattle.table_field.proofs.Laws12289.{residues12289}
+use Rattle.modular.specs.Modular.{is_number}
+use Rattle.table_field.specs.Laws12289.{residues12289}
 use Rattle.table_field.proofs.f12289.file.F12289FileField.number.Goals as goal
 
 pub returns : goal.returns

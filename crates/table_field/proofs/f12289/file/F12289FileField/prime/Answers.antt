@@ -1,6 +1,6 @@
 use mathlib.Core.Path.{refl}
-use Rattle.modular.proofs.Modular.{ones_vanish, ones_distinct}
-use Rattle.table_field.proofs.Laws12289.{residues12289}
+use Rattle.modular.specs.Modular.{ones_vanish, ones_distinct}
+use Rattle.table_field.specs.Laws12289.{residues12289}
 use Rattle.table_field.proofs.f12289.file.F12289FileField.prime.Goals as goal
 
 pub returns : goal.returns

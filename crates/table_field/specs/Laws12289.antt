@@ -4,8 +4,8 @@ use Rattle.std.proofs.Common.{sym, ap, ◌∙◌, one-mul, pow-suc, arith, eqb�
 use Rattle.std.proofs.Math.Nat.{pow-zero, two-pow-succ}
 use Rattle.field.specs.Laws.{Laws}
 use Rattle.modular.specs.Residues.{Residues}
-use Rattle.modular.proofs.Modular.{mul_mod_mod, mod_mul_mod, laws_of}
-use Rattle.modular.proofs.Below.{every, at, or_right}
+use Rattle.modular.specs.Modular.{mul_mod_mod, mod_mul_mod, laws_of}
+use Rattle.modular.specs.Below.{every, at, or_right}
 use Rattle.table_field.specs.declared.f12289.F12289.{F12289}
 use Rattle.table_field.specs.Field12289.{only12289, ops12289}
 

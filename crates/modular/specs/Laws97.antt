@@ -5,8 +5,8 @@ use Rattle.field.specs.Laws.{Laws}
 use Rattle.modular.specs.Residues.{Residues}
 use Rattle.modular.specs.declared.f97.F97.{F97}
 use Rattle.modular.specs.Field97.{only97, element97, ops97}
-use Rattle.modular.proofs.Modular.{laws_of}
-use Rattle.modular.proofs.Below.{every, at, or_right}
+use Rattle.modular.specs.Modular.{laws_of}
+use Rattle.modular.specs.Below.{every, at, or_right}
 
 -- the 95th power is an inverse
 inverts : ℕ → Bool
