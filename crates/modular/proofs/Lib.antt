@@ -1,1 +1,2 @@
+pub mod Laws97
 pub mod Tables97

@@ -5,7 +5,7 @@ use Rattle.field.specs.Operations.{root_of_order}
 use Rattle.modular.specs.declared.f97.F97.{F97}
 use Rattle.modular.specs.Field97.{only97, element97, ops97}
 use Rattle.modular.specs.Modular.{power_is}
-use Rattle.modular.specs.Laws97.{residues97}
+use Rattle.modular.proofs.Laws97.{residues97}
 use Rattle.modular.specs.Below.{every, at}
 
 -- the numbers of a constant that is an array of numbers

@@ -1,11 +1,9 @@
--- The field of 97 elements keeps the laws: inverses and squares are tested at every element.
+-- What the laws ask of the field of 97 elements, but for its products: inverses and squares are tested at every element.
 use Rattle.std.specs.Prelude.{◌≡◌, ℕ, ◌*◌, ◌%◌, ◌^◌, ◌<◌, Bool, not, ◌||◌, T, ◌==◌, refl}
 use Rattle.std.proofs.Common.{eqb→eq, lit<, lit≤, T_not}
-use Rattle.field.specs.Laws.{Laws}
 use Rattle.modular.specs.Residues.{Residues}
 use Rattle.modular.specs.declared.f97.F97.{F97}
 use Rattle.modular.specs.Field97.{only97, element97, ops97}
-use Rattle.modular.specs.Modular.{laws_of}
 use Rattle.modular.specs.Below.{every, at, or_right}
 
 -- the 95th power is an inverse
@@ -23,8 +21,9 @@ no_square97 : (n : ℕ) → n < 97 → ¬ ((n * n) % 97 ≡ 28)
 unfolding no_root
 no_square97 n h e = T_not ((n * n) % 97 == 28) (at no_root 97 tt n h) (rw e tt)
 
-pub residues97 : Residues 97 (λ (x : F97). x.value) ops97
-residues97 = record {
+-- the residues modulo 97, from products that are those of the numbers
+pub residues_by : ((x y : F97) → (ops97.mul x y).value ≡ (x.value * y.value) % 97) → Residues 97 (λ (x : F97). x.value) ops97
+residues_by mul_is = record {
   large = lit< tt;
   below = λ x. x.below;
   only = only97;
@@ -32,12 +31,9 @@ residues97 = record {
   one_is = refl;
   add_is = λ x y. refl;
   neg_is = λ x. refl;
-  mul_is = λ x y. refl;
+  mul_is = mul_is;
   inverse_is = λ x d. inverse97 x.value x.below d;
   adicity_two = lit≤ tt;
   top_power = refl;
   top_no_square = λ x e. no_square97 x.value x.below e;
 }
-
-pub laws97 : Laws ops97
-laws97 = laws_of residues97

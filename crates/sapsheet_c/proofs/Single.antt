@@ -5,7 +5,7 @@ use Rattle.refusal.specs.Due.{Due}
 use Rattle.field.specs.Operations.{Operations, ones}
 use Rattle.modular.specs.Field97.{ops97}
 use Rattle.modular.specs.Modular.{ones_distinct}
-use Rattle.modular.specs.Laws97.{residues97}
+use Rattle.modular.proofs.Laws97.{residues97}
 use Rattle.table_field.specs.Field12289.{ops12289}
 use Rattle.table_field.specs.Laws12289.{residues12289}
 use Rattle.frames.specs.Little.{Bytes}

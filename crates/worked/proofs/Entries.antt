@@ -4,7 +4,7 @@ use native.Mathlib.Decide.{ℕ_discrete}
 use Rattle.field.specs.Operations.{Operations}
 use Rattle.field.specs.Laws.{Laws}
 use Rattle.modular.specs.Field97.{only97, element97, ops97}
-use Rattle.modular.specs.Laws97.{laws97}
+use Rattle.modular.proofs.Laws97.{laws97}
 use Rattle.sheet.specs.Outcomes.{entry}
 use Rattle.sheet.specs.declared.entry.Entry.{Entry}
 use Rattle.square.specs.Rows.{if◌then◌else◌, only, position}

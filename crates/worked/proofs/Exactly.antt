@@ -3,7 +3,7 @@ use Rattle.std.proofs.Common.{◌≡◌, ℕ, ◌+◌, ◌-◌, ◌*◌, ◌%◌
 use Rattle.field.specs.Operations.{power, ones}
 use Rattle.modular.specs.Field97.{ops97}
 use Rattle.modular.specs.declared.f97.F97.{F97}
-use Rattle.modular.specs.Laws97.{laws97}
+use Rattle.modular.proofs.Laws97.{laws97}
 use Rattle.transform.specs.Polynomial.{table, coefficient, value_at, product_at, Root, Takes, Quotient}
 use Rattle.transform.proofs.Polynomials.{takes_unique, values_quotient}
 use Rattle.transform.proofs.Roots.{root_power}

@@ -1,6 +1,6 @@
 use Rattle.std.proofs.Common.{refl, rules}
 use Rattle.modular.specs.Modular.{is_number, lone_coordinate}
-use Rattle.modular.specs.Laws97.{residues97}
+use Rattle.modular.proofs.Laws97.{residues97}
 use Rattle.modular.proofs.f97.file.F97FileField.coordinate.Goals as goal
 
 pub returns-in-0 : goal.returns-in-0

@@ -1,7 +1,7 @@
 use Rattle.std.proofs.Common.{ap}
 use Rattle.modular.specs.declared.f97.F97.{F97}
 use Rattle.modular.specs.Modular.{is_ones}
-use Rattle.modular.specs.Laws97.{residues97}
+use Rattle.modular.proofs.Laws97.{residues97}
 use Rattle.modular.proofs.f97.file.F97FileField.element.Goals as goal
 
 pub returns-then-v-lt97 : goal.returns-then-v-lt97
