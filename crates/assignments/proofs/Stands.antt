@@ -7,7 +7,7 @@ use Rattle.frames.specs.Little.{little, le4, le8, part, Bytes}
 use Rattle.frames.specs.Faults.{check, then}
 use Rattle.frames.specs.Checks.{payload, laid, place_of}
 use Rattle.frames.proofs.Faults.{passed, then_both, goes, no_fault}
-use Rattle.frames.proofs.Bytes.{Rest, skip, four, eight, whole, length_little, take_small, drop_small, le4_lt, le8_lt, four_back, eight_back}
+use Rattle.frames.proofs.Bytes.{Rest, skip, four, eight, whole, length_little, take_small, drop_small, le8_lt, four_back, eight_back}
 use Rattle.frames.proofs.Stands.{found, consists, there}
 use Rattle.assignments.specs.Assigned.{magic, counted, values, valued, values_at, content, assigned}
 use Rattle.assignments.specs.Assignment.{header_bytes, value_bytes, Encodes, ReadsExactly}

@@ -1,5 +1,5 @@
 -- What the readers hand out of a written file.
-use Rattle.std.proofs.Common.{◌≡◌, ℕ, zero, suc, ◌+◌, ◌-◌, ◌*◌, ◌^◌, ◌<◌, ◌≤◌, List, [], ◌∷◌, ◌++◌, length, take, drop, Some, None, sym, refl, ap, ◌∙◌, append_assoc, arith, length-append, length-drop, take_at}
+use Rattle.std.proofs.Common.{◌≡◌, ℕ, ◌+◌, ◌*◌, ◌^◌, ◌<◌, ◌≤◌, List, [], ◌∷◌, ◌++◌, length, take, drop, Some, None, refl, ap, ◌∙◌, append_assoc, arith, length-append, length-drop, take_at}
 use Rattle.frames.specs.Little.{little, le4, le8}
 use Rattle.frames.proofs.Bytes.{Rest, skip, four, eight, whole, length_little}
 use Rattle.constraints.specs.declared.item.Item.{Item}

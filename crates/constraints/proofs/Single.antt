@@ -1,7 +1,7 @@
 -- A file encodes one circuit only.
-use Rattle.std.proofs.Common.{◌≡◌, ℕ, suc, ◌+◌, ◌^◌, ◌<◌, ◌≤◌, List, [], ◌∷◌, ◌++◌, length, sym, refl, ap, ◌∙◌, append_assoc, add_assoc, arith}
+use Rattle.std.proofs.Common.{◌≡◌, ℕ, ◌+◌, ◌^◌, ◌<◌, List, [], ◌∷◌, ◌++◌, length, sym, refl, ◌∙◌, append_assoc, add_assoc, arith}
 use Rattle.std.specs.List.{AllByRecursion as All}
-use Rattle.frames.specs.Little.{little, le4, le8}
+use Rattle.frames.specs.Little.{little}
 use Rattle.frames.proofs.Bytes.{Rest, skip, four, eight, length_little}
 use Rattle.constraints.specs.declared.item.Item.{Item}
 use Rattle.constraints.specs.Opened.{beyond, header, rows_at}

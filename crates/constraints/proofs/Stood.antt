@@ -1,11 +1,11 @@
 -- The reader of an opened file stands before the rows of its circuit.
-use Rattle.std.proofs.Common.{◌≡◌, ℕ, ◌+◌, ◌^◌, ◌<◌, ◌≤◌, List, [], ◌∷◌, ◌++◌, length, Some, None, sym, refl, ap, ◌∙◌, arith}
+use Rattle.std.proofs.Common.{◌≡◌, ℕ, ◌^◌, ◌<◌, List, [], ◌∷◌, length, Some, sym, ap, ◌∙◌, arith}
 use Rattle.std.specs.List.{AllByRecursion as All}
 use Rattle.frames.proofs.Faults.{no_fault}
 use Rattle.constraints.specs.declared.reader.RowReader.{RowReader}
-use Rattle.constraints.specs.Opened.{header, opened}
-use Rattle.constraints.specs.Circuit.{Line, Circuit, row_bytes, header_bytes, Below, Encodes}
-use Rattle.constraints.specs.Reader.{Tells, Stood, Ahead, Starts}
+use Rattle.constraints.specs.Opened.{opened}
+use Rattle.constraints.specs.Circuit.{Line, Circuit, header_bytes, Below, Encodes}
+use Rattle.constraints.specs.Reader.{Tells, Stood, Starts}
 use Rattle.constraints.proofs.Written.{encodes_opened, places, Says, says}
 
 counted : (w p : ℕ) (ls : List Line) → All (λ l. Below w p l.a × Below w p l.b × Below w p l.c) ls

@@ -1,8 +1,8 @@
 -- What encodes a circuit is opened.
-use Rattle.std.proofs.Common.{◌≡◌, ℕ, zero, suc, ◌+◌, ◌-◌, ◌*◌, ◌^◌, ◌<◌, ◌≤◌, List, [], ◌∷◌, ◌++◌, length, take, drop, Some, None, sym, refl, ap, ◌∙◌, append_assoc, append-nil, add-zero, add_assoc, arith, length-append, length-drop}
+use Rattle.std.proofs.Common.{◌≡◌, ℕ, suc, ◌+◌, ◌-◌, ◌*◌, ◌^◌, ◌<◌, ◌≤◌, List, [], ◌∷◌, ◌++◌, length, drop, None, refl, ap, ◌∙◌, append_assoc, append-nil, add-zero, add_assoc, arith, length-append, length-drop}
 use Rattle.std.specs.List.{AllByRecursion as All}
-use Rattle.frames.specs.Little.{little, le4, le8, part}
-use Rattle.frames.specs.Checks.{past, payload, laid, place_of}
+use Rattle.frames.specs.Little.{little, le4, le8}
+use Rattle.frames.specs.Checks.{payload, laid, place_of}
 use Rattle.frames.proofs.Faults.{goes}
 use Rattle.frames.proofs.Bytes.{Rest, skip, four, eight, whole, length_little}
 use Rattle.frames.proofs.Stands.{found, there}

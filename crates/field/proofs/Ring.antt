@@ -1,5 +1,5 @@
 -- What follows from the laws of a commutative ring alone.
-use Rattle.std.proofs.Common.{◌≡◌, sym, refl, ap, ◌∙◌}
+use Rattle.std.proofs.Common.{◌≡◌, sym, ap, ◌∙◌}
 use Rattle.field.specs.Operations.{Operations}
 use Rattle.field.specs.Laws.{Ring}
 

@@ -1,7 +1,7 @@
 -- A solver for equations that hold in every commutative ring. Assumes nothing.
 --   An expression is brought to a sum of terms, each a whole number times a product of variables, sorted, none with the factor 0.
 --   Two expressions with the same such sum have the same value. Call `by_ring`, at the end of the file.
-use Rattle.std.proofs.Common.{◌≡◌, ℕ, suc, ◌+◌, ◌-◌, ◌*◌, Bool, true, false, ◌&&◌, T, eqb, leb, List, [], ◌∷◌, sym, refl, ap, ◌∙◌, subst, ap₂, eqb→eq}
+use Rattle.std.proofs.Common.{◌≡◌, ℕ, suc, ◌+◌, ◌-◌, ◌*◌, Bool, true, false, T, eqb, leb, List, [], ◌∷◌, sym, refl, ap, ◌∙◌, ap₂, eqb→eq}
 use Prim.Native.Nat as Nat
 use native.Mathlib.Nat as NatL
 use Rattle.field.specs.Operations.{Operations}

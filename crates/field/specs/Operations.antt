@@ -1,5 +1,5 @@
 -- The operations of a field, and what is said with them: finite sums, powers, multiples of one, roots of one.
-use Rattle.std.specs.Prelude.{◌≡◌, ℕ, suc, ◌-◌, ◌^◌, ◌≤◌, Bool, true, false}
+use Rattle.std.specs.Prelude.{◌≡◌, ℕ, suc, ◌-◌, ◌^◌, Bool, true, false}
 
 pub record Operations (F : Type 0) : Type 0 where
   pub zero : F

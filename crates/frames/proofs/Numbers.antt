@@ -1,6 +1,6 @@
 -- Numbers read from parts of bytes.
-use Rattle.std.proofs.Common.{◌≡◌, ℕ, suc, ◌+◌, ◌-◌, ◌*◌, ◌<◌, ◌≤◌, List, [], ◌∷◌, length, get_or, take, drop, sym, refl, ap, ◌∙◌, add-zero, add_assoc, arith, length-drop, get_or-drop, take_all, drop-drop}
-use Rattle.frames.specs.Little.{le4, le8, part}
+use Rattle.std.proofs.Common.{◌≡◌, ℕ, ◌+◌, ◌-◌, List, length, take, drop, ap, ◌∙◌, add-zero, add_assoc, arith, length-drop, get_or-drop, take_all, drop-drop}
+use Rattle.frames.specs.Little.{le4, le8}
 
 pub le4_drop : (xs : List ℕ) (b at : ℕ) → le4 (drop b xs) at ≡ le4 xs (b + at)
 unfolding le4

@@ -1,5 +1,5 @@
 -- What the case of a section says of its kind.
-use Rattle.std.proofs.Common.{◌≡◌, ℕ, ◌⊎◌, List, [], ◌∷◌, sym, refl, ap, ◌∙◌, inl, inr, arith, Bor}
+use Rattle.std.proofs.Common.{◌≡◌, ℕ, ◌⊎◌, List, refl, inl, inr, arith, Bor}
 use Rattle.frames.specs.Shown.{Shows}
 use Rattle.frames.specs.declared.section.Section.{Section}
 use Rattle.frames.specs.declared.section.Section.TheVariants.{Header, Body, Other}

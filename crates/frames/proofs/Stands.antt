@@ -1,18 +1,18 @@
 -- The sections of a file, from its sections to its bytes and back.
-use Rattle.std.proofs.Common.{◌≡◌, ℕ, zero, suc, ◌+◌, ◌-◌, ◌*◌, ◌^◌, ◌<◌, ◌≤◌, Bool, true, false, cond, ◌&&◌, ◌||◌, eqb, leb, List, [], ◌∷◌, ◌++◌, length, get_or, take, drop, Some, None, sym, refl, ap, ◌∙◌, append_assoc, add_assoc, arith, length-append, length-drop, length-take-le, drop-drop, take_at, eq-eqb, ne_eqb, eqb-true, leb-true}
+use Rattle.std.proofs.Common.{◌≡◌, ℕ, zero, suc, ◌+◌, ◌-◌, ◌^◌, ◌<◌, ◌≤◌, true, ◌&&◌, ◌||◌, eqb, leb, List, [], ◌∷◌, ◌++◌, length, take, drop, Some, None, sym, refl, ap, ◌∙◌, append_assoc, add_assoc, arith, length-drop, length-take-le, drop-drop, take_at, eq-eqb, ne_eqb, eqb-true, leb-true}
 use lib.Seq.{drop-length}
 use Rattle.std.specs.List.{AllByRecursion as All}
 use Rattle.std.proofs.lemmas.Bool.Decides.{nat_tests}
 use Rattle.std.proofs.lemmas.Bool.{and_parts}
-use Rattle.frames.specs.Little.{little, le4, le8, part, Bytes}
+use Rattle.frames.specs.Little.{little, le4, le8, Bytes}
 use Rattle.frames.specs.Faults.{check, then}
 use Rattle.frames.specs.Checks.{past, payload, started, framed, others, kinds, laid, place_of}
-use Rattle.frames.specs.Sections.{Block, block_bytes, blocks_bytes, file_bytes, section_of, Ordered, Consists}
+use Rattle.frames.specs.Sections.{Block, block_bytes, blocks_bytes, file_bytes, section_of, Consists}
 use Rattle.frames.specs.Shown.{Holds}
 use Rattle.frames.specs.declared.layout.Layout.{Layout}
 use Rattle.frames.proofs.Faults.{passed, then_both, goes, no_fault}
 use Rattle.frames.proofs.Walk.{framed_more, framed_done, framed_step, others_more, others_done, both, begun, sought_here, second}
-use Rattle.frames.proofs.Bytes.{length_little, Rest, skip, four, eight, whole, parted, le4_lt, le8_lt, four_back, eight_back}
+use Rattle.frames.proofs.Bytes.{length_little, Rest, skip, four, eight, parted, le4_lt, le8_lt, four_back, eight_back}
 
 abbrev Sized : Block → Type 0
 Sized s = (s.kind < 2 ^ 32) × (length s.payload < 2 ^ 64)

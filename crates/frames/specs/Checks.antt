@@ -1,5 +1,5 @@
 -- The checks that every file goes through before its payloads are read, in their order.
-use Rattle.std.specs.Prelude.{ℕ, zero, suc, ◌+◌, ◌-◌, Bool, cond, ◌&&◌, ◌||◌, List, length, None, ◌==◌, nat_le}
+use Rattle.std.specs.Prelude.{ℕ, zero, suc, ◌+◌, ◌-◌, cond, ◌&&◌, ◌||◌, List, length, None, ◌==◌, nat_le}
 use Rattle.refusal.specs.Due.{Due}
 use Rattle.frames.specs.Little.{le4, le8, part}
 use Rattle.frames.specs.Faults.{check, then}

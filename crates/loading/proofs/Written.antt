@@ -1,5 +1,5 @@
 -- A reader that stands before the rows of a circuit has just those rows.
-use Rattle.std.proofs.Common.{◌≡◌, ℕ, ◌+◌, ◌^◌, ◌<◌, ◌≤◌, List, [], ◌∷◌, ◌++◌, length, drop, sym, refl, ap, ◌∙◌, arith, length-append, length-drop}
+use Rattle.std.proofs.Common.{◌≡◌, ℕ, ◌^◌, ◌<◌, ◌≤◌, List, [], ◌∷◌, ◌++◌, length, drop, sym, refl, ap, ◌∙◌, arith, length-append, length-drop}
 use Rattle.std.specs.List.{AllByRecursion as All}
 use Rattle.std.proofs.ByRecursion.{All-weaker}
 use Rattle.frames.proofs.Bytes.{Rest, skip, four, eight, whole, length_little}

@@ -1,10 +1,10 @@
 -- What the laws ask of the field of 97 elements, but for its products: inverses and squares are tested at every element.
-use Rattle.std.specs.Prelude.{◌≡◌, ℕ, ◌*◌, ◌%◌, ◌^◌, ◌<◌, Bool, not, ◌||◌, T, ◌==◌, refl}
+use Rattle.std.specs.Prelude.{◌≡◌, ℕ, ◌*◌, ◌%◌, ◌^◌, ◌<◌, Bool, not, ◌||◌, ◌==◌, refl}
 use Rattle.std.proofs.Common.{eqb→eq, lit<, lit≤, T_not}
 use Rattle.modular.specs.Residues.{Residues}
 use Rattle.modular.specs.declared.f97.F97.{F97}
-use Rattle.modular.specs.Field97.{only97, element97, ops97}
-use Rattle.modular.specs.Below.{every, at, or_right}
+use Rattle.modular.specs.Field97.{only97, ops97}
+use Rattle.modular.specs.Below.{at, or_right}
 
 -- the 95th power is an inverse
 inverts : ℕ → Bool

@@ -1,10 +1,10 @@
 -- The laws of a field for arithmetic modulo p, once for any p.
-use Rattle.std.specs.Prelude.{◌≡◌, ℕ, ◌+◌, ◌-◌, ◌*◌, ◌/◌, ◌%◌, ◌^◌, ◌<◌, ◌≤◌, [], ◌∷◌, ◌==◌, refl}
+use Rattle.std.specs.Prelude.{◌≡◌, ℕ, ◌+◌, ◌-◌, ◌*◌, ◌/◌, ◌%◌, ◌^◌, ◌<◌, [], ◌∷◌, ◌==◌}
 use Rattle.std.proofs.Math.Path.{sym, ap}
-use Rattle.std.proofs.Common.{◌∙◌, add_comm, add_assoc, add-zero, mul_comm, mul_assoc, mul-add, mul-one, add-sub_of_le, le_of_lt, one-add, add-one, arith, eq-eqb}
+use Rattle.std.proofs.Common.{◌∙◌, add_comm, add_assoc, add-zero, mul_comm, mul_assoc, mul-add, mul-one, add-sub_of_le, le_of_lt, add-one, arith, eq-eqb}
 use Rattle.std.proofs.Math.Nat.{mod-add-mod, add-mod-mod, add-mod, mod-eq_of_lt, mod_self, mod-add-div, pow-zero, pow-succ', add-mul-mod_self_left}
 use Rattle.std.proofs.Math.Decide.{ℕ_discrete}
-use Rattle.std.proofs.lemmas.Bool.{eqb-true, ne_eqb}
+use Rattle.std.proofs.lemmas.Bool.{ne_eqb}
 use Rattle.field.specs.Operations.{Operations, sum, power, ones, decided}
 use Rattle.field.specs.Laws.{Ring, Laws}
 use Rattle.modular.specs.Residues.{Residues, same_by}

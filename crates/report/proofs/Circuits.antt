@@ -13,13 +13,13 @@ use Rattle.sheet.specs.declared.head.Head.{Head}
 use Rattle.sheet.specs.declared.entry.Entry.{Entry}
 use Rattle.square.proofs.Heads.{shape_same, log_of_n_same}
 use Rattle.constraints.specs.declared.reader.RowReader.{RowReader}
-use Rattle.constraints.specs.Circuit.{Circuit, Proper}
+use Rattle.constraints.specs.Circuit.{Circuit}
 use Rattle.constraints.specs.Reader.{again, Starts}
 use Rattle.loading.specs.Loaded.{circuit_due}
 use Rattle.solving.specs.Taken.{files_model, sheet_due, witness_due, TakesFiles}
 use Rattle.solving.proofs.Files.{files_one, files_within, owed_by_files}
 use Rattle.report.specs.Text.{Appended}
-use Rattle.report.specs.Outcome.{Outcome, refused, RefusedOr, refused_line, render, longest, Answered, Surveyed, TellsModel, TellsCircuit}
+use Rattle.report.specs.Outcome.{Outcome, refused, RefusedOr, refused_line, render, longest, TellsModel, TellsCircuit}
 
 -- a sheet that stands for a model has the root that its rows need
 pub root_there : {F : Type 0} (O : Operations F) (h : Head) (es : List (Entry F)) (vs : List F) (b : Model F) → Stands O (sheet h es vs) b → h.log_n ≤ O.adicity

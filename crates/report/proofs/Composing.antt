@@ -1,5 +1,5 @@
 -- From the bytes of the constraint file to the outcome.
-use Rattle.std.proofs.Common.{◌≡◌, ℕ, ◌+◌, ◌<◌, ◌≤◌, true, false, cond, eqb, leb, ◌≢◌, ◌⊎◌, List, ◌++◌, length, take, drop, Some, None, Ok, Err, Result, sym, refl, ap, ◌∙◌, subst, ap₂, inl, inr, zero-add, arith, length-take}
+use Rattle.std.proofs.Common.{◌≡◌, ℕ, ◌<◌, ◌≤◌, false, cond, eqb, leb, ◌≢◌, ◌⊎◌, List, ◌++◌, length, take, drop, Some, None, Ok, Err, Result, sym, refl, ap, ◌∙◌, subst, ap₂, inl, inr, zero-add, arith, length-take}
 use Rattle.std.proofs.lemmas.Bool.{le-leb, lt-leb, leb-true, leb-false, ne_eqb, cases_Bool}
 use Rattle.refusal.specs.Due.{Due, Decided, unless}
 use Rattle.refusal.specs.Numbers.{number_of}
@@ -10,9 +10,9 @@ use Rattle.runs.proofs.Stands.{line_passed}
 use Rattle.constraints.specs.declared.reader.RowReader.{RowReader}
 use Rattle.constraints.specs.Opened.{opened}
 use Rattle.constraints.specs.Circuit.{Circuit, Encodes}
-use Rattle.constraints.specs.Reader.{again, Starts, Stood, Checked, ReadsCircuit}
+use Rattle.constraints.specs.Reader.{again, Starts, Checked, ReadsCircuit}
 use Rattle.report.specs.Text.{Appended}
-use Rattle.report.specs.Outcome.{Outcome, refused, RefusedOr, refused_line, render, longest}
+use Rattle.report.specs.Outcome.{Outcome, refused, refused_line, render, longest}
 use Rattle.report.specs.Means.{prime_by, prime_of, ToldBy, TellsBy, Composed, text_room, Written}
 use Rattle.report.proofs.Circuits.{due_refused, due_none}
 

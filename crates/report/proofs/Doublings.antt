@@ -1,8 +1,8 @@
 -- The field with the fewest doublings, as it was chosen.
-use Rattle.std.proofs.Common.{◌≡◌, ℕ, ◌+◌, ◌-◌, ◌*◌, ◌^◌, ◌<◌, ◌≤◌, min, Bool, true, false, cond, ◌&&◌, leb, ◌⊎◌, List, length, sym, refl, ap, ◌∙◌, subst, inl, inr, arith, pow_mono}
+use Rattle.std.proofs.Common.{◌≡◌, ℕ, ◌+◌, ◌-◌, ◌*◌, ◌^◌, ◌≤◌, min, true, cond, ◌&&◌, leb, List, ap, ◌∙◌, subst, inl, inr, arith}
 use lib.Pow.{pow-lt}
 use Rattle.std.proofs.lemmas.Bool.{and_parts, cases_Bool, cases_lt, leb-true}
-use Rattle.sheet.specs.Shape.{Shape, LeastPower, log_up, log_of_n, log_k, k, n}
+use Rattle.sheet.specs.Shape.{Shape, log_of_n, k, n}
 use Rattle.sheet.specs.Rules.{in_limits}
 use Rattle.sheet.specs.Outcomes.{shape}
 use Rattle.sheet.proofs.Powers.{log_up_least}
@@ -10,9 +10,8 @@ use Rattle.constraints.specs.declared.reader.RowReader.{RowReader}
 use Rattle.constraints.specs.Circuit.{Circuit}
 use Rattle.constraints.specs.Reader.{again, Starts}
 use Rattle.loading.specs.Loaded.{file_shape, circuit_shape}
-use Rattle.report.specs.Text.{Appended}
-use Rattle.report.specs.Outcome.{Outcome, render, Surveyed, TellsCircuit}
-use Rattle.report.specs.Means.{Chosen, field_of, doublings, ToldBy, TellsBy}
+use Rattle.report.specs.Outcome.{Surveyed, TellsCircuit}
+use Rattle.report.specs.Means.{field_of, doublings, TellsBy}
 
 -- the shape by the reader's numbers is the circuit's
 pub same_shape : (s : RowReader) (c : Circuit) → Starts (again s) c → file_shape s.header ≡ circuit_shape c

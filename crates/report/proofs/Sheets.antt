@@ -1,20 +1,19 @@
 -- The outcome of a sheet that stands for a model, and its text.
-use Rattle.std.proofs.Common.{◌≡◌, ℕ, ◌+◌, ◌-◌, ◌*◌, true, List, ◌++◌, map, length, Ok, Err, codes, sym, refl, ap, ◌∙◌, subst, ap₂, inl, inr}
+use Rattle.std.proofs.Common.{◌≡◌, ℕ, ◌+◌, ◌-◌, ◌*◌, true, List, ◌++◌, map, length, Ok, Err, codes, refl, ap, ◌∙◌, subst, ap₂, inl, inr}
 use Rattle.refusal.specs.Numbers.{number_of}
 use Rattle.refusal.specs.declared.refused.Refused.{Refused}
 use Rattle.field.specs.Operations.{Operations}
 use Rattle.field.specs.Laws.{Laws}
 use Rattle.transform.specs.Polynomial.{coefficient}
-use Rattle.sheet.specs.Shape.{Shape, n, k, columns}
+use Rattle.sheet.specs.Shape.{n, k, columns}
 use Rattle.sheet.specs.Outcomes.{Answer, shape_of}
 use Rattle.sheet.specs.Model.{Model, Sheet, Stands}
-use Rattle.sheet.specs.declared.head.Head.{Head}
 use Rattle.square.specs.Rules.{all_inside}
 use Rattle.square.specs.Outcomes.{Divided, Published}
 use Rattle.square.proofs.Heads.{shape_same, n_same, k_same, columns_same}
 use Rattle.runs.proofs.Reading.{public_reads}
 use Rattle.solving.proofs.Solve.{quotient_is, fails_at}
-use Rattle.report.specs.Text.{Appended, numbers_line, elements_line}
+use Rattle.report.specs.Text.{Appended, elements_line}
 use Rattle.report.specs.Outcome.{Outcome, failing, solved, sheet_lines, refused_line, render, Answered}
 use Rattle.report.proofs.Texts.{append_both}
 

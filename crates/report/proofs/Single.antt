@@ -1,15 +1,15 @@
 -- Two files have one outcome only: a file encodes one thing, a model has one quotient, one public polynomial and one first failing row.
-use Rattle.std.proofs.Common.{◌≡◌, ℕ, ◌<◌, leb, ◌⊎◌, List, [], map, length, Some, None, sym, refl, ap, ◌∙◌, subst, ap₂, inl, inr}
+use Rattle.std.proofs.Common.{◌≡◌, ℕ, ◌<◌, leb, List, [], map, length, Some, None, sym, ap, ◌∙◌, subst, ap₂, inl, inr}
 use native.Mathlib.Decide.{dec_lt}
 use Rattle.refusal.specs.Due.{Due}
 use Rattle.field.specs.Operations.{Operations, sum}
-use Rattle.transform.specs.Polynomial.{table, coefficient}
+use Rattle.transform.specs.Polynomial.{coefficient}
 use Rattle.transform.proofs.Tables.{is_table}
 use Rattle.frames.specs.Little.{Bytes}
 use Rattle.frames.specs.Faults.{check, then}
 use Rattle.sheet.specs.Shape.{n, k}
 use Rattle.sheet.specs.Model.{Model}
-use Rattle.square.specs.Rows.{position, FirstFailing, failing_row}
+use Rattle.square.specs.Rows.{position, FirstFailing}
 use Rattle.square.specs.Polynomials.{Column}
 use Rattle.square.proofs.FailingRow.{first_failing_some}
 use Rattle.runs.specs.Law.{PublicSum}

@@ -9,7 +9,7 @@ use Rattle.sheet.specs.declared.head.Head.{Head}
 use Rattle.sheet.specs.declared.call.Call.{Call}
 use Rattle.sheet.specs.declared.call.Call.TheVariants.{Enter, Assign, Extend, Quotient, Public}
 use Rattle.square.proofs.Heads.{shape_same, n_same, columns_same}
-use Rattle.runs.specs.Runs.{Same, Step, Run}
+use Rattle.runs.specs.Runs.{Step, Run}
 
 pub below_same : (i a b c : ℕ) → i < a → c ≡ b → b ≡ a → i < c
 below_same i a b c h p q = omega arith

@@ -1,5 +1,5 @@
 -- What holds of the model of every list of calls: one stands on wire 0, and each entry lies within the sheet.
-use Rattle.std.proofs.Common.{◌≡◌, ℕ, ◌≤◌, Bool, true, ◌&&◌, eqb, ltb, leb, ◌≢◌, List, [], ◌∷◌, ◌++◌, Some, None, refl, ◌∙◌, arith, get_or-set_other}
+use Rattle.std.proofs.Common.{◌≡◌, ℕ, ◌≤◌, true, eqb, ltb, leb, ◌≢◌, List, [], ◌∷◌, ◌++◌, Some, None, refl, ◌∙◌, arith, get_or-set_other}
 use Rattle.std.proofs.lemmas.Bool.{and_parts, and_from, leb-true}
 use Rattle.refusal.specs.Due.{Due}
 use Rattle.field.specs.Operations.{Operations}

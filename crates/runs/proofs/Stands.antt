@@ -1,14 +1,14 @@
 -- Any run of calls keeps the sheet standing for the model, and enter and assign are answered as the model owes.
-use Rattle.std.proofs.Common.{◌≡◌, ℕ, ◌+◌, ◌-◌, ◌*◌, ◌<◌, Bool, true, false, ◌&&◌, eqb, ltb, leb, List, [], ◌∷◌, ◌++◌, length, get_or, take, drop, set, Some, None, Ok, Err, sym, refl, ap, ◌∙◌, subst, ap₂, arith, length-set, eq-eqb}
+use Rattle.std.proofs.Common.{◌≡◌, ℕ, ◌+◌, ◌-◌, ◌*◌, ◌<◌, Bool, true, false, ◌&&◌, eqb, ltb, leb, List, [], ◌∷◌, ◌++◌, length, take, set, None, Ok, Err, sym, refl, ap, ◌∙◌, subst, ap₂, arith, length-set, eq-eqb}
 use native.Mathlib.Decide.{ℕ_discrete}
-use Rattle.std.proofs.lemmas.List.{take_more_set, length_push, drop_more}
+use Rattle.std.proofs.lemmas.List.{take_more_set, length_push}
 use Rattle.std.proofs.lemmas.Bool.{and_parts, eqb-true, ne_eqb}
 use Rattle.refusal.specs.Due.{Due, Decided, unless, unless_at}
 use Rattle.field.specs.Operations.{Operations}
 use Rattle.transform.specs.Polynomial.{coefficient}
 use Rattle.sheet.specs.Shape.{Shape, log_of_n, n, columns}
 use Rattle.sheet.specs.Rules.{table_size, inside, enter_due, assign_due}
-use Rattle.sheet.specs.Outcomes.{Answer, Numbers, Entered, Assigned, shape_of, entry}
+use Rattle.sheet.specs.Outcomes.{Answer, Numbers, shape_of, entry}
 use Rattle.sheet.specs.Model.{Model, Sheet, Stands, with_entry, with_value, after, after_all}
 use Rattle.sheet.specs.declared.entry.Entry.{Entry}
 use Rattle.sheet.specs.declared.call.Call.{Call}

@@ -10,7 +10,7 @@ use Rattle.modular.specs.Field97.{ops97}
 use Rattle.table_field.specs.Field12289.{ops12289}
 use Rattle.constraints.specs.Opened.{opened}
 use Rattle.constraints.specs.Circuit.{Circuit, Encodes as EncodesCircuit}
-use Rattle.constraints.specs.Reader.{again, Starts, Stood}
+use Rattle.constraints.specs.Reader.{Starts, Stood}
 use Rattle.constraints.specs.declared.reader.RowReader.{RowReader}
 use Rattle.sapsheet_c.specs.Outcome.{Outcome, refused, Answered}
 use Rattle.sapsheet_c.specs.Means.{RefusedOr, MeansWith, MeansOver, is_other_prime, Means}

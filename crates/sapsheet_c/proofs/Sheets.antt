@@ -8,7 +8,7 @@ use Rattle.refusal.specs.declared.refused.Refused.{Refused}
 use Rattle.field.specs.Operations.{Operations, ones}
 use Rattle.field.specs.Laws.{Laws}
 use Rattle.transform.specs.Polynomial.{coefficient}
-use Rattle.sheet.specs.Shape.{Shape, n, columns}
+use Rattle.sheet.specs.Shape.{n, columns}
 use Rattle.sheet.specs.Outcomes.{shape_of}
 use Rattle.sheet.specs.Model.{Model, sheet, Stands}
 use Rattle.sheet.specs.declared.head.Head.{Head}

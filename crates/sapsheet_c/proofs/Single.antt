@@ -1,5 +1,5 @@
 -- Bytes come to one outcome only: a file encodes one thing, a model has one quotient, and an element one number.
-use Rattle.std.proofs.Common.{◌≡◌, ℕ, ◌<◌, Bool, true, false, cond, ◌⊎◌, List, [], ◌∷◌, map, Some, None, sym, refl, ap, ◌∙◌, subst, ap₂, inl, inr, arith}
+use Rattle.std.proofs.Common.{◌≡◌, ℕ, ◌<◌, Bool, true, false, cond, List, [], ◌∷◌, map, Some, None, sym, refl, ap, ◌∙◌, subst, ap₂, inl, inr, arith}
 use Rattle.std.specs.List.{AllByRecursion as All}
 use Rattle.refusal.specs.Due.{Due}
 use Rattle.field.specs.Operations.{Operations, ones}
@@ -18,9 +18,8 @@ use Rattle.assignments.specs.Assigned.{assigned}
 use Rattle.assignments.specs.Assignment.{Encodes}
 use Rattle.assignments.proofs.Stands.{reads_exactly_lem}
 use Rattle.solving.specs.Taken.{files_model, sheet_due}
-use Rattle.solving.specs.Solved.{QuotientIs, FailsAt}
-use Rattle.sapsheet_c.specs.Outcome.{Outcome, refused, quotient}
-use Rattle.sapsheet_c.specs.Means.{RefusedOr, Solved, SolvedWithin, MeansWith, MeansOver, is_other_prime, Means, OneOutcome}
+use Rattle.sapsheet_c.specs.Outcome.{Outcome, quotient}
+use Rattle.sapsheet_c.specs.Means.{RefusedOr, Solved, SolvedWithin, MeansWith, MeansOver, is_other_prime, OneOutcome}
 
 -- one outcome of what follows a check, one outcome of both
 single_or : (due : Due) (o o' : Outcome) (P P' : Type 0) → (P → P' → o ≡ o') → RefusedOr due o P → RefusedOr due o' P' → o ≡ o'

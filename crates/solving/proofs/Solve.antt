@@ -12,7 +12,7 @@ use Rattle.square.specs.Rules.{all_inside}
 use Rattle.square.specs.Rows.{position, AllHold, FirstFailing}
 use Rattle.square.specs.Outcomes.{Divided}
 use Rattle.square.proofs.FailingRow.{hold_or_fail}
-use Rattle.runs.specs.Law.{Satisfied, Unsatisfied}
+use Rattle.runs.specs.Law.{Unsatisfied}
 use Rattle.runs.proofs.Reading.{quotient_reads}
 use Rattle.solving.specs.Solved.{QuotientIs, FailsAt}
 

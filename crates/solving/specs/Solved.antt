@@ -5,7 +5,6 @@ use Rattle.transform.specs.Polynomial.{coefficient}
 use Rattle.sheet.specs.Model.{Model}
 use Rattle.square.specs.Rows.{position, AllHold, FirstFailing}
 use Rattle.square.specs.Polynomials.{Pair}
-use Rattle.runs.specs.Law.{PublicSum}
 
 module _ {F : Type 0} (O : Operations F) (b : Model F) where
   open b use {shape, entries, values}

@@ -1,6 +1,6 @@
 -- The row that is reported: none just where all rows hold, and row i just where row i is the first that fails.
 use Rattle.std.proofs.Common.{◌≡◌, ℕ, zero, suc, ◌+◌, ◌-◌, ◌<◌, ◌≤◌, Bool, true, false, cond, ◌⊎◌, ◌↔◌, Some, None, Option, sym, refl, ap, ◌∙◌, subst, inl, inr, arith}
-use Rattle.std.proofs.lemmas.Bool.{both_ways, cases_Bool, cases_eq, cond-true, cond-false}
+use Rattle.std.proofs.lemmas.Bool.{cases_Bool, cases_eq, cond-true, cond-false}
 use Rattle.field.specs.Operations.{Operations, decided}
 use Rattle.field.proofs.Decided.{decided_yes, decided_no, yes_decided, no_decided}
 use Rattle.sheet.specs.Shape.{Shape}

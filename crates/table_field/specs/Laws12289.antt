@@ -1,5 +1,5 @@
 -- The field of 12289 elements keeps the laws: inverses and squares are tested at every element.
-use Rattle.std.specs.Prelude.{◌≡◌, refl, Bool, not, ◌||◌, ℕ, zero, suc, ◌+◌, ◌-◌, ◌*◌, ◌%◌, ◌^◌, ◌<◌, ◌≤◌, T, eqb}
+use Rattle.std.specs.Prelude.{◌≡◌, refl, Bool, not, ◌||◌, ℕ, zero, suc, ◌+◌, ◌-◌, ◌*◌, ◌%◌, ◌^◌, ◌<◌, T, eqb}
 use Rattle.std.proofs.Common.{sym, ap, ◌∙◌, one-mul, pow-suc, arith, eqb→eq, lit<, lit≤, T_not, pow-add, pow_pos}
 use Rattle.std.proofs.Math.Nat.{pow-zero, two-pow-succ}
 use Rattle.field.specs.Laws.{Laws}

@@ -1,5 +1,5 @@
 -- Powers, and the geometric series.
-use Rattle.std.proofs.Common.{◌≡◌, ℕ, zero, suc, ◌+◌, ◌*◌, ◌/◌, ◌%◌, ◌<◌, sym, refl, ap, ◌∙◌, not-suc-le-zero, mul_comm, suc-add, mul-zero, zero-add, mul-suc}
+use Rattle.std.proofs.Common.{◌≡◌, ℕ, zero, suc, ◌+◌, ◌*◌, ◌/◌, ◌%◌, ◌<◌, sym, refl, ap, ◌∙◌, not-suc-le-zero, mul_comm, mul-zero, mul-suc}
 use native.Mathlib.Nat.{div-add-mod}
 use Rattle.field.specs.Operations.{Operations, sum, power}
 use Rattle.field.specs.Laws.{Laws}

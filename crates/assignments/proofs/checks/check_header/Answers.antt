@@ -1,4 +1,4 @@
-use Rattle.std.proofs.Common.{◌≡◌, ◌⊎◌, length, sym, ◌∙◌, inl, inr, arith}
+use Rattle.std.proofs.Common.{length, sym, ◌∙◌, inl, inr, arith}
 use Rattle.std.proofs.lemmas.Bool.{cases_eq}
 use Rattle.frames.proofs.Faults.{told_at}
 use Rattle.assignments.proofs.Walk.{head_short, field_size, other_size, other_prime, other_count, head_right}

@@ -1,8 +1,8 @@
-use Rattle.std.proofs.Common.{◌≡◌, ◌+◌, sym, refl, ap, ◌∙◌, arith}
+use Rattle.std.proofs.Common.{sym, ap, ◌∙◌, arith}
 use Rattle.std.proofs.lemmas.Result.{err_from_is_err_and}
 use Rattle.frames.specs.Little.{le8}
 use Rattle.frames.proofs.Faults.{stops, goes, told_at}
-use Rattle.assignments.specs.Assigned.{content, values_at}
+use Rattle.assignments.specs.Assigned.{content}
 use Rattle.assignments.proofs.Walk.{first_out, first_one}
 use Rattle.assignments.proofs.checks.checked.Goals as goal
 

@@ -1,4 +1,4 @@
-use Rattle.std.proofs.Common.{◌≡◌, sym, ◌∙◌, arith}
+use Rattle.std.proofs.Common.{sym, ◌∙◌}
 use Rattle.frames.proofs.Numbers.{left}
 use Rattle.assignments.proofs.checks.numbers.Goals as goal
 

@@ -1,6 +1,5 @@
-use Rattle.std.proofs.Common.{◌≡◌, ◌+◌, ◌*◌, ◌<◌, length, sym, ap, ◌∙◌, arith}
+use Rattle.std.proofs.Common.{◌≡◌, length, ap, ◌∙◌, arith}
 use Rattle.field.specs.Operations.{ones}
-use Rattle.frames.specs.Little.{le8}
 use Rattle.assignments.proofs.Walk.{value_below}
 use Rattle.assignments.proofs.Filled.{none_yet, one_more, all_there}
 use Rattle.assignments.proofs.reader.fill.Goals as goal

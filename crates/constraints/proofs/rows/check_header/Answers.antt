@@ -1,4 +1,4 @@
-use Rattle.std.proofs.Common.{◌≡◌, sym, ◌∙◌, arith}
+use Rattle.std.proofs.Common.{sym, ◌∙◌, arith}
 use Rattle.frames.proofs.Faults.{told_at}
 use Rattle.constraints.proofs.Walk.{head_size, field_size, other_prime, too_many, head_right}
 use Rattle.constraints.proofs.rows.check_header.Goals as goal

@@ -1,4 +1,4 @@
-use Rattle.std.proofs.Common.{◌≡◌, ◌+◌, ◌*◌, ◌≤◌, length}
+use Rattle.std.proofs.Common.{◌≡◌, ◌≤◌}
 use Rattle.constraints.specs.Opened.{lists}
 use Rattle.constraints.proofs.rows.check_lists.Given as goal
 

@@ -1,4 +1,4 @@
-use Rattle.std.proofs.Common.{length, arith, length-drop, take_all, rules}
+use Rattle.std.proofs.Common.{arith, length-drop, take_all, rules}
 use Rattle.frames.specs.Little.{le4, le8}
 use Rattle.frames.proofs.number.pair.Goals as goal
 

@@ -1,4 +1,4 @@
-use Rattle.std.proofs.Common.{◌≡◌, ◌≤◌, length}
+use Rattle.std.proofs.Common.{◌≡◌}
 use Rattle.frames.specs.Checks.{framed}
 use Rattle.frames.proofs.split.check_frames.Given as goal
 

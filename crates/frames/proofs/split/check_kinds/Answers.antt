@@ -1,7 +1,7 @@
-use Rattle.std.proofs.Common.{◌≡◌, ◌+◌, ◌-◌, ◌≤◌, length, drop, None, sym, refl, ap, ◌∙◌, arith, length-drop, length-take-le}
+use Rattle.std.proofs.Common.{◌≡◌, ◌+◌, ◌-◌, ◌≤◌, length, drop, sym, refl, ap, ◌∙◌, arith, length-drop, length-take-le}
 use Rattle.std.proofs.lemmas.Result.{err_from_is_err_and}
 use Rattle.frames.specs.Little.{le4, le8}
-use Rattle.frames.specs.Checks.{past, framed, place_of}
+use Rattle.frames.specs.Checks.{past, place_of}
 use Rattle.frames.proofs.Faults.{told_at}
 use Rattle.frames.proofs.Walk.{framed_step, no_header, no_body, both, sought_here, second}
 use Rattle.frames.proofs.Shapes.{not_header, not_body}

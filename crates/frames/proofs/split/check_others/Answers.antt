@@ -1,4 +1,4 @@
-use Rattle.std.proofs.Common.{◌≡◌, ◌<◌, sym, ◌∙◌, arith}
+use Rattle.std.proofs.Common.{◌≡◌, sym, ◌∙◌, arith}
 use Rattle.frames.proofs.Faults.{told_at}
 use Rattle.frames.proofs.Walk.{framed_step, others_more, others_wrong, others_done}
 use Rattle.frames.proofs.Shapes.{named}

@@ -1,4 +1,4 @@
-use Rattle.std.proofs.Common.{◌≡◌, length, sym, ap, ◌∙◌, add-zero, add_assoc, arith, length-drop, drop-drop}
+use Rattle.std.proofs.Common.{length, ap, add-zero, arith, length-drop, drop-drop}
 use native.Mathlib.Nat.{sub-zero}
 use Rattle.frames.proofs.Numbers.{le4_drop, le8_drop, rest}
 use Rattle.frames.proofs.Faults.{told_at}

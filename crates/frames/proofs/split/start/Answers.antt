@@ -1,4 +1,4 @@
-use Rattle.std.proofs.Common.{◌≡◌, sym, ap, ◌∙◌, arith}
+use Rattle.std.proofs.Common.{sym, ◌∙◌, arith}
 use Rattle.frames.proofs.Numbers.{left}
 use Rattle.frames.proofs.Faults.{told_at}
 use Rattle.frames.proofs.Walk.{no_start, other_start, no_version, other_version, no_count, few, begun}

@@ -1,4 +1,4 @@
-use Rattle.std.proofs.Common.{sym, arith}
+use Rattle.std.proofs.Common.{arith}
 use Rattle.std.proofs.lemmas.Fmt.{decimal_digit, decimal_nonempty}
 use Rattle.report.proofs.Texts.{append_last, decimal_longer}
 use Rattle.report.proofs.append.+append_number.Goals as goal

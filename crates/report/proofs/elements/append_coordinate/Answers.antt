@@ -1,4 +1,4 @@
-use Rattle.std.proofs.Common.{sym, ap, ◌∙◌, arith}
+use Rattle.std.proofs.Common.{arith}
 use Rattle.report.proofs.Texts.{append_both}
 use Rattle.report.proofs.Coordinates.{five_digits, piece_first, piece_later}
 use Rattle.report.proofs.elements.append_coordinate.Goals as goal

@@ -1,4 +1,4 @@
-use Rattle.std.proofs.Common.{◌+◌, ◌-◌, ◌*◌, ◌≤◌, length, take}
+use Rattle.std.proofs.Common.{◌+◌, ◌-◌, ◌*◌, ◌≤◌, take}
 use Rattle.report.specs.Text.{Appended, element_text}
 use Rattle.report.proofs.elements.append_element.Given as goal
 

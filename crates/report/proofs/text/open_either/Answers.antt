@@ -1,4 +1,4 @@
-use Rattle.std.proofs.Common.{ℕ, Err, sym, ap, ◌∙◌, subst}
+use Rattle.std.proofs.Common.{ℕ, Err, sym, ◌∙◌, subst}
 use Rattle.constraints.specs.Reader.{Checked, ReadsCircuit}
 use Rattle.report.proofs.Composing.{prime_stays}
 use Rattle.report.proofs.text.open_either.Goals as goal

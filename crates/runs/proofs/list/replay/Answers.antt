@@ -1,4 +1,4 @@
-use Rattle.std.proofs.Common.{ℕ, ◌+◌, ◌*◌, length, sym, refl, ap, ◌∙◌, ap₂}
+use Rattle.std.proofs.Common.{ℕ, ◌+◌, ◌*◌, length, sym, refl, ◌∙◌, ap₂}
 use Rattle.sheet.specs.Model.{sheet}
 use Rattle.runs.proofs.Replay.{below_same, at_end, step_large, large_again, run_next, run_all}
 use Rattle.runs.proofs.list.replay.Goals as goal

@@ -1,4 +1,4 @@
-use Rattle.std.proofs.Common.{◌≡◌, ℕ, ◌-◌, ◌*◌, ◌<◌, ◌≤◌, length, sym, ap, ◌∙◌, subst}
+use Rattle.std.proofs.Common.{ℕ, ◌-◌, ◌*◌, ◌<◌, ◌≤◌, length, subst}
 use Rattle.sapsheet_c.proofs.Sheets.{divided_size, work_size, too_short, granted, row_fails}
 use Rattle.sapsheet_c.proofs.answer.answer_sheet.Goals as goal
 

@@ -1,4 +1,4 @@
-use Rattle.std.proofs.Common.{◌≡◌, ℕ, ◌<◌, ◌≢◌, length, sym, ap, ◌∙◌, arith, get_or-set_other, get_or-set_same, below_more}
+use Rattle.std.proofs.Common.{◌≡◌, ◌≢◌, length, ◌∙◌, arith, get_or-set_other, get_or-set_same, below_more}
 use Rattle.transform.proofs.Tables.{is_table}
 use Rattle.transform.specs.Polynomial.{coefficient}
 use Rattle.sheet.specs.Shape.{columns}

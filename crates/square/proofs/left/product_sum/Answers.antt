@@ -1,5 +1,5 @@
 -- A product row's left sum, by its number among the rows that are not public.
-use Rattle.std.proofs.Common.{◌≡◌, sym, ◌∙◌, arith}
+use Rattle.std.proofs.Common.{sym, ◌∙◌, arith}
 use Rattle.transform.specs.Polynomial.{coefficient}
 use Rattle.sheet.specs.Outcomes.{shape_of}
 use Rattle.square.specs.Rows.{position}

@@ -1,5 +1,5 @@
 -- A public row's left sum, by its number among the public rows.
-use Rattle.std.proofs.Common.{◌≡◌, [], sym, ap, ◌∙◌, arith}
+use Rattle.std.proofs.Common.{[], sym, ◌∙◌, arith}
 use Rattle.std.proofs.lemmas.List.{get_or_read}
 use Rattle.transform.specs.Polynomial.{coefficient}
 use Rattle.sheet.specs.Outcomes.{shape_of}

@@ -1,5 +1,5 @@
 -- One place more.
-use Rattle.std.proofs.Common.{◌≡◌, ◌-◌, ◌%◌, ◌<◌, ◌≢◌, sym, ap, ◌∙◌, mod-eq_of_lt, arith, get_or-set_other, get_or-set_same, below_more}
+use Rattle.std.proofs.Common.{◌-◌, ◌≢◌, sym, ap, ◌∙◌, mod-eq_of_lt, arith, get_or-set_other, get_or-set_same, below_more}
 use native.Mathlib.Nat.{mod-eq-sub-mod}
 use Rattle.std.proofs.lemmas.List.{get_or_read}
 use Rattle.transform.specs.Polynomial.{coefficient}

@@ -1,9 +1,8 @@
 -- Horner's rule.
-use Rattle.std.proofs.Common.{◌≡◌, ℕ, ◌*◌, [], sym, ap, ◌∙◌, arith}
+use Rattle.std.proofs.Common.{ℕ, ◌*◌, [], sym, ◌∙◌, arith}
 use Rattle.transform.specs.Polynomial.{coefficient}
 use Rattle.sheet.specs.Shape.{k, stride}
 use Rattle.sheet.specs.Outcomes.{shape_of}
-use Rattle.sheet.specs.declared.head.Head.{Head}
 use Rattle.square.specs.Rows.{position}
 use Rattle.square.specs.Program.{u_row}
 use Rattle.square.proofs.Horner.{horner_none, horner_next, horner_all}

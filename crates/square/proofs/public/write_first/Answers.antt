@@ -1,6 +1,5 @@
 -- One coefficient more.
-use Rattle.std.proofs.Common.{◌≡◌, ◌≢◌, sym, ap, ◌∙◌, add-one, arith, get_or-set_other, get_or-set_same, below_none, below_more}
-use Rattle.field.specs.Operations.{power}
+use Rattle.std.proofs.Common.{◌≢◌, sym, ◌∙◌, add-one, arith, get_or-set_other, get_or-set_same, below_none, below_more}
 use Rattle.transform.proofs.Powers.{power_zero, power_suc}
 use Rattle.square.proofs.public.write_first.Goals as goal
 

@@ -1,5 +1,5 @@
 -- Nothing is refused, and the upper coefficients of u² are the quotient, since every row holds.
-use Rattle.std.proofs.Common.{◌≡◌, ℕ, ◌-◌, length, sym, ap, ◌∙◌, subst, arith}
+use Rattle.std.proofs.Common.{◌≡◌, ℕ, ◌-◌, length, subst, arith}
 use Rattle.transform.specs.Outcomes.{UpperSquared}
 use Rattle.transform.specs.Polynomial.{coefficient}
 use Rattle.transform.proofs.Whole.{theory}

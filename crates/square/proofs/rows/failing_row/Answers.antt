@@ -1,5 +1,5 @@
 -- One row after another: where it fails it is the first, and where it holds the first is among those left.
-use Rattle.std.proofs.Common.{◌≡◌, ◌-◌, ◌<◌, ◌≤◌, true, false, sym, ap, ◌∙◌, arith}
+use Rattle.std.proofs.Common.{◌≡◌, ◌-◌, true, false, sym, ap, ◌∙◌, arith}
 use Rattle.transform.specs.Polynomial.{coefficient}
 use Rattle.sheet.specs.Outcomes.{shape_of}
 use Rattle.square.specs.Rows.{position, first_failure, failing_row}

@@ -1,6 +1,5 @@
-use Rattle.std.proofs.Common.{◌≡◌, ◌⊎◌, sym, ap, ◌∙◌, ap₂, inl, inr, ⊎_elim}
+use Rattle.std.proofs.Common.{◌≡◌, sym, ap, ◌∙◌, inl, inr, ⊎_elim}
 use Rattle.std.proofs.lemmas.List.{get_or_read}
-use Rattle.field.specs.Operations.{Operations}
 use Rattle.transform.specs.Polynomial.{coefficient}
 use Rattle.square.proofs.Entries.{contribution, contribution_here, contribution_elsewhere}
 use Rattle.square.proofs.rows.with_entry.Goals as goal

@@ -1,6 +1,5 @@
 use Rattle.std.proofs.Common.{◌≡◌, ℕ, ◌+◌, ◌-◌, ◌*◌, ◌++◌, length, take, drop, Some, sym, refl, ap, ◌∙◌, ap₂, arith}
 use Rattle.refusal.specs.Numbers.{number_of}
-use Rattle.sheet.specs.Shape.{columns}
 use Rattle.sheet.specs.Outcomes.{shape_of}
 use Rattle.square.specs.Rows.{position}
 use Rattle.square.proofs.Heads.{n_same, columns_same}

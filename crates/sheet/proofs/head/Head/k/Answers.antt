@@ -1,4 +1,4 @@
-use Rattle.std.proofs.Common.{◌+◌, ◌*◌, refl}
+use Rattle.std.proofs.Common.{◌*◌, refl}
 use Rattle.sheet.proofs.Powers.{log_up_least}
 use Rattle.sheet.proofs.head.Head.k.Goals as goal
 

@@ -1,4 +1,4 @@
-use Rattle.std.proofs.Common.{◌≡◌, ℕ, ◌^◌, ◌≤◌, refl, ap, ◌∙◌, arith, pow_mono}
+use Rattle.std.proofs.Common.{ℕ, ◌^◌, ◌≤◌, ap, ◌∙◌, arith, pow_mono}
 use Rattle.sheet.proofs.head.calls.head_of.Goals as goal
 
 pub log_up-log_n-requires : goal.log_up-log_n-requires

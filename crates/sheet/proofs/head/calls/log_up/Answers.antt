@@ -1,4 +1,4 @@
-use Rattle.std.proofs.Common.{◌≡◌, ℕ, ◌+◌, ◌^◌, ◌<◌, sym, refl, not-suc-le-zero, arith, pow-add, below_more}
+use Rattle.std.proofs.Common.{◌^◌, ◌<◌, sym, refl, not-suc-le-zero, arith, pow-add, below_more}
 use Rattle.sheet.proofs.Powers.{exponent_below, log_up_is}
 use Rattle.sheet.proofs.head.calls.log_up.Goals as goal
 

@@ -1,4 +1,4 @@
-use Rattle.std.proofs.Common.{◌≡◌, ◌<◌, ◌≤◌, length, drop, sym, refl, ap, ◌∙◌, arith}
+use Rattle.std.proofs.Common.{length, drop, refl, ap, ◌∙◌, arith}
 use Rattle.frames.specs.Little.{le4, le8}
 use Rattle.constraints.proofs.Handed.{item_first, no_item}
 use Rattle.constraints.proofs.item.reader.ItemReader.next.Goals as goal
