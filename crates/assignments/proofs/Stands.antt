@@ -1,7 +1,7 @@
 -- A file of values, from its values to its bytes and back.
 use Rattle.std.proofs.Common.{◌≡◌, ℕ, zero, suc, ◌+◌, ◌-◌, ◌*◌, ◌^◌, ◌<◌, ◌≤◌, ◌&&◌, eqb, ltb, leb, List, [], ◌∷◌, ◌++◌, length, get_or, take, drop, Some, None, sym, refl, ap, ◌∙◌, append_assoc, append-nil, add-zero, arith, length-append, length-drop, take_at, ltb-true, eqb-true, leb-true}
 use lib.Seq.{drop-length}
-use Rattle.std.specs.List.{AllByRecursion as All}
+use Rattle.std.specs.List.{AllByRecursion}
 use Rattle.std.proofs.lemmas.Bool.{and_parts}
 use Rattle.frames.specs.Little.{little, le4, le8, part, Bytes}
 use Rattle.frames.specs.Faults.{check, then}
@@ -18,7 +18,7 @@ unfolding value_bytes
 length_value_bytes [] = refl
 length_value_bytes (v ∷ vs) = omega (arith, length-append (little 8 v) (value_bytes vs), length_little 8 v, length_value_bytes vs)
 
-values_right : (xs : List ℕ) (p : ℕ) → p < 2 ^ 64 → (vs : List ℕ) (at : ℕ) (zs : List ℕ) → All (λ v. v < p) vs → Rest xs at (value_bytes vs ++ zs)
+values_right : (xs : List ℕ) (p : ℕ) → p < 2 ^ 64 → (vs : List ℕ) (at : ℕ) (zs : List ℕ) → AllByRecursion (λ v. v < p) vs → Rest xs at (value_bytes vs ++ zs)
     → (valued xs p (length vs) at ≡ None) × (values xs (length vs) at ≡ vs)
 unfolding value_bytes values
 values_right xs p small [] at zs a r = (valued_done xs p at, refl)
@@ -109,7 +109,7 @@ module _ (xs : List ℕ) (small : Bytes xs) where
       let m : drop (at + 8) xs ≡ value_bytes (values xs n (at + 8)) ++ drop (at + suc n * 8) xs = rw k at (values_back n (at + 8) (omega arith)) in
       simp append_assoc (eight_back xs small at (omega arith) ∙ ap (λ l. little 8 (le8 xs at) ++ l) m)
 
-  values_below : (p n at : ℕ) → valued xs p n at ≡ None → All (λ v. v < p) (values xs n at)
+  values_below : (p n at : ℕ) → valued xs p n at ≡ None → AllByRecursion (λ v. v < p) (values xs n at)
   unfolding values valued
   values_below p zero at e = tt
   values_below p (suc n) at e =

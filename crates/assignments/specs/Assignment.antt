@@ -1,6 +1,6 @@
 -- What an assignment file is: values below a prime, encoded in the sections of a file.
 use Rattle.std.specs.Prelude.{◌≡◌, ℕ, ◌^◌, ◌<◌, ◌≤◌, List, [], ◌∷◌, ◌++◌, length, Some, None, slice_index_or}
-use Rattle.std.specs.List.{AllByRecursion as All}
+use Rattle.std.specs.List.{AllByRecursion}
 use Rattle.frames.specs.Little.{little, Bytes}
 use Rattle.frames.specs.Sections.{Block, section_of, Consists}
 use Rattle.assignments.specs.Assigned.{magic, assigned}
@@ -24,7 +24,7 @@ pub record Encodes (xs : List ℕ) (p n : ℕ) (vs : List ℕ) : Type 0 where
   pub some : 1 ≤ n
   pub room : n ≤ 3072
   pub first : slice_index_or vs 0 0 ≡ 1
-  pub below : All (λ v. v < p) vs
+  pub below : AllByRecursion (λ v. v < p) vs
 
 -- a file is granted exactly when it encodes values over the prime, as many as the table has places, and it encodes one list only
 abbrev pub ReadsExactly : Type 0

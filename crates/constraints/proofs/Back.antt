@@ -1,7 +1,7 @@
 -- What is opened encodes a circuit.
 use Rattle.std.proofs.Common.{◌≡◌, ℕ, zero, suc, ◌+◌, ◌-◌, ◌*◌, ◌^◌, ◌<◌, ◌≤◌, eqb, ltb, leb, List, [], ◌∷◌, ◌++◌, length, take, drop, Some, None, sym, refl, ap, ◌∙◌, append_assoc, append-nil, add-zero, add_assoc, arith, length-append, length-drop, take_at, ltb-true, eqb-true, leb-true}
 use lib.Seq.{drop-length}
-use Rattle.std.specs.List.{AllByRecursion as All}
+use Rattle.std.specs.List.{AllByRecursion}
 use Rattle.frames.specs.Little.{little, le4, le8, part, Bytes}
 use Rattle.frames.specs.Faults.{check, then}
 use Rattle.frames.specs.Checks.{payload, laid, place_of}
@@ -20,7 +20,7 @@ lists_zero xs w p stop at e = eqb-true at stop (passed (eqb at stop) None 8 at e
 module _ (xs : List ℕ) (small : Bytes xs) where
   module _ (w p : ℕ) where
     items_back : (n at : ℕ) → at + 12 * n ≤ length xs → items xs w p n at ≡ None
-        → (is : List Item) × (length is ≡ n) × All (λ i. (i.wire < w) × (i.coefficient < p)) is × (drop at xs ≡ item_bytes is ++ drop (at + 12 * n) xs)
+        → (is : List Item) × (length is ≡ n) × AllByRecursion (λ i. (i.wire < w) × (i.coefficient < p)) is × (drop at xs ≡ item_bytes is ++ drop (at + 12 * n) xs)
     unfolding items item_bytes
     items_back zero at f e = ([], refl, tt, rw add-zero)
     items_back (suc n) at f e =
@@ -48,7 +48,7 @@ module _ (xs : List ℕ) (small : Bytes xs) where
         (r.0, (n, r.2), simp (append_assoc, r.1) (four_back xs small at (omega arith) ∙ ap (λ l. little 4 (le4 xs at) ++ l) r.3))
 
     lines_back : (stop n at : ℕ) → stop ≤ length xs → lists xs w p stop (3 * n) at ≡ None
-        → (ls : List Line) × (length ls ≡ n) × All (λ l. Below w p l.a × Below w p l.b × Below w p l.c) ls × (drop at xs ≡ row_bytes ls ++ drop stop xs)
+        → (ls : List Line) × (length ls ≡ n) × AllByRecursion (λ l. Below w p l.a × Below w p l.b × Below w p l.c) ls × (drop at xs ≡ row_bytes ls ++ drop stop xs)
     unfolding row_bytes
     lines_back stop zero at f e = ([], refl, tt, ap (λ n. drop n xs) (lists_zero xs w p stop at e))
     lines_back stop (suc n) at f e =
@@ -104,7 +104,7 @@ payload_back xs ys at n h e =
 
 in_order : (c : Circuit) (ls : List Line) (w p : ℕ) → c.prime ≡ p → c.rows ≡ ls → c.wires ≡ w → w < 2 ^ 32
     → 1 + c.outputs + c.inputs + c.private ≤ c.wires → c.labels < 2 ^ 64 → c.prime < 2 ^ 64 → length ls < 2 ^ 32
-    → All (λ l. Below w p l.a × Below w p l.b × Below w p l.c) ls → Proper c
+    → AllByRecursion (λ l. Below w p l.a × Below w p l.b × Below w p l.c) ls → Proper c
 in_order c ls w p ep el ew wide enough labels small rows lines =
     record { prime = small; wires = omega arith; enough = enough; labels = labels; count = rw el rows; rows = simp (ep, el, ew) lines }
 

@@ -1,6 +1,6 @@
 -- A file encodes one circuit only.
 use Rattle.std.proofs.Common.{◌≡◌, ℕ, ◌+◌, ◌^◌, ◌<◌, List, [], ◌∷◌, ◌++◌, length, sym, refl, ◌∙◌, append_assoc, add_assoc, arith}
-use Rattle.std.specs.List.{AllByRecursion as All}
+use Rattle.std.specs.List.{AllByRecursion}
 use Rattle.frames.specs.Little.{little}
 use Rattle.frames.proofs.Bytes.{Rest, skip, four, eight, length_little}
 use Rattle.constraints.specs.declared.item.Item.{Item}
@@ -10,7 +10,7 @@ use Rattle.constraints.proofs.Handed.{list_there}
 use Rattle.constraints.proofs.Written.{encodes_opened, places, Says, says}
 use Rattle.constraints.proofs.Back.{opened_encodes}
 
-small_of : (w p : ℕ) → w < 2 ^ 32 → p < 2 ^ 64 → (is : List Item) → All (λ i. (i.wire < w) × (i.coefficient < p)) is → Small is
+small_of : (w p : ℕ) → w < 2 ^ 32 → p < 2 ^ 64 → (is : List Item) → AllByRecursion (λ i. (i.wire < w) × (i.coefficient < p)) is → Small is
 small_of w p a b [] h = tt
 small_of w p a b (i ∷ is) h = ((omega (arith, h.0.0), omega (arith, h.0.1)), small_of w p a b is h.1)
 
@@ -50,7 +50,7 @@ module _ (xs : List ℕ) where
         )
 
     rows_same : (ls ms : List Line) (at : ℕ) (ys zs : List ℕ)
-        → All (λ l. Below w p l.a × Below w p l.b × Below w p l.c) ls → All (λ l. Below w p l.a × Below w p l.b × Below w p l.c) ms
+        → AllByRecursion (λ l. Below w p l.a × Below w p l.b × Below w p l.c) ls → AllByRecursion (λ l. Below w p l.a × Below w p l.b × Below w p l.c) ms
         → length ls ≡ length ms → Rest xs at (row_bytes ls ++ ys) → Rest xs at (row_bytes ms ++ zs) → ls ≡ ms
     unfolding row_bytes
     rows_same [] [] at ys zs a b e r s = refl
@@ -82,7 +82,7 @@ single xs p c d f g =
     let e4 : c.private ≡ d.private = sym sc.private ∙ sd.private in
     let e5 : c.labels ≡ d.labels = sym sc.labels ∙ sd.labels in
     let n : length c.rows ≡ length d.rows = sym sc.rows ∙ sd.rows in
-    let below : All (λ l. Below c.wires c.prime l.a × Below c.wires c.prime l.b × Below c.wires c.prime l.c) d.rows = simp (e0, e1) g.proper.rows in
+    let below : AllByRecursion (λ l. Below c.wires c.prime l.a × Below c.wires c.prime l.b × Below c.wires c.prime l.c) d.rows = simp (e0, e1) g.proper.rows in
     let e6 = rows_same xs c.wires c.prime f.proper.wires f.proper.prime c.rows d.rows (rows_at xs) _ _ f.proper.rows below n qc.rows qd.rows in
     λ z. record { prime = e0 z; wires = e1 z; outputs = e2 z; inputs = e3 z; private = e4 z; labels = e5 z; rows = e6 z }
 

@@ -1,6 +1,6 @@
 -- The reader of an opened file stands before the rows of its circuit.
 use Rattle.std.proofs.Common.{◌≡◌, ℕ, ◌^◌, ◌<◌, List, [], ◌∷◌, length, Some, sym, ap, ◌∙◌, arith}
-use Rattle.std.specs.List.{AllByRecursion as All}
+use Rattle.std.specs.List.{AllByRecursion}
 use Rattle.frames.proofs.Faults.{no_fault}
 use Rattle.constraints.specs.declared.reader.RowReader.{RowReader}
 use Rattle.constraints.specs.Opened.{opened}
@@ -8,8 +8,8 @@ use Rattle.constraints.specs.Circuit.{Line, Circuit, header_bytes, Below, Encode
 use Rattle.constraints.specs.Reader.{Tells, Stood, Starts}
 use Rattle.constraints.proofs.Written.{encodes_opened, places, Says, says}
 
-counted : (w p : ℕ) (ls : List Line) → All (λ l. Below w p l.a × Below w p l.b × Below w p l.c) ls
-    → All (λ l. (length l.a < 2 ^ 32) × (length l.b < 2 ^ 32) × (length l.c < 2 ^ 32)) ls
+counted : (w p : ℕ) (ls : List Line) → AllByRecursion (λ l. Below w p l.a × Below w p l.b × Below w p l.c) ls
+    → AllByRecursion (λ l. (length l.a < 2 ^ 32) × (length l.b < 2 ^ 32) × (length l.c < 2 ^ 32)) ls
 counted w p [] a = tt
 counted w p (l ∷ ls) a = ((a.0.0.0, a.0.1.0, a.0.2.0), counted w p ls a.1)
 

@@ -1,6 +1,6 @@
 -- What encodes a circuit is opened.
 use Rattle.std.proofs.Common.{◌≡◌, ℕ, suc, ◌+◌, ◌-◌, ◌*◌, ◌^◌, ◌<◌, ◌≤◌, List, [], ◌∷◌, ◌++◌, length, drop, None, refl, ap, ◌∙◌, append_assoc, append-nil, add-zero, add_assoc, arith, length-append, length-drop}
-use Rattle.std.specs.List.{AllByRecursion as All}
+use Rattle.std.specs.List.{AllByRecursion}
 use Rattle.frames.specs.Little.{little, le4, le8}
 use Rattle.frames.specs.Checks.{payload, laid, place_of}
 use Rattle.frames.proofs.Faults.{goes}
@@ -13,7 +13,7 @@ use Rattle.constraints.proofs.Walk.{items_more, items_done, lists_go, lists_done
 
 module _ (xs : List ℕ) where
   module _ (w p : ℕ) (wide : w < 2 ^ 32) (small : p < 2 ^ 64) where
-    pub items_right : (is : List Item) (at : ℕ) (zs : List ℕ) → All (λ i. (i.wire < w) × (i.coefficient < p)) is → Rest xs at (item_bytes is ++ zs)
+    pub items_right : (is : List Item) (at : ℕ) (zs : List ℕ) → AllByRecursion (λ i. (i.wire < w) × (i.coefficient < p)) is → Rest xs at (item_bytes is ++ zs)
         → (items xs w p (length is) at ≡ None) × Rest xs (at + 12 * length is) zs
     unfolding item_bytes
     items_right [] at zs a r = (items_done xs w p at, rw add-zero r)
@@ -46,7 +46,7 @@ module _ (xs : List ℕ) where
         lists_go xs w p stop (n + 1) at (omega arith) f ∙ goes _ _ t.1 ∙ rw k
 
     pub lines_right : (ls : List Line) (at stop : ℕ) (zs : List ℕ)
-        → All (λ l. Below w p l.a × Below w p l.b × Below w p l.c) ls
+        → AllByRecursion (λ l. Below w p l.a × Below w p l.b × Below w p l.c) ls
         → Rest xs at (row_bytes ls ++ zs) → Rest xs stop zs → lists xs w p stop (3 * length ls) at ≡ None
     unfolding row_bytes
     lines_right [] at stop zs a r e = lists_done xs w p stop at (omega (arith, r.size, e.size))

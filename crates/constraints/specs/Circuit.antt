@@ -1,6 +1,6 @@
 -- What a constraint file is: a circuit, encoded in the sections of a file.
 use Rattle.std.specs.Prelude.{◌≡◌, ℕ, ◌+◌, ◌^◌, ◌<◌, ◌≤◌, List, [], ◌∷◌, ◌++◌, length, drop, Some, None, Option, MatchOption}
-use Rattle.std.specs.List.{AllByRecursion as All}
+use Rattle.std.specs.List.{AllByRecursion}
 use Rattle.frames.specs.Little.{little, le4, le8, Bytes}
 use Rattle.frames.specs.Sections.{Block, section_of, Consists}
 use Rattle.constraints.specs.declared.item.Item.{Item}
@@ -40,7 +40,7 @@ header_bytes c =
 
 -- wires and coefficients are below their bounds, and the count has 4 bytes
 abbrev pub Below : ℕ → ℕ → List Item → Type 0
-Below w p is = (length is < 2 ^ 32) × All (λ i. (i.wire < w) × (i.coefficient < p)) is
+Below w p is = (length is < 2 ^ 32) × AllByRecursion (λ i. (i.wire < w) × (i.coefficient < p)) is
 
 -- each number is small enough for its bytes, and the circuit is in order
 pub record Proper (c : Circuit) : Type 0 where
@@ -49,7 +49,7 @@ pub record Proper (c : Circuit) : Type 0 where
   pub enough : 1 + c.outputs + c.inputs + c.private ≤ c.wires
   pub labels : c.labels < 2 ^ 64
   pub count : length c.rows < 2 ^ 32
-  pub rows : All (λ l. Below c.wires c.prime l.a × Below c.wires c.prime l.b × Below c.wires c.prime l.c) c.rows
+  pub rows : AllByRecursion (λ l. Below c.wires c.prime l.a × Below c.wires c.prime l.b × Below c.wires c.prime l.c) c.rows
 
 -- the bytes are a file whose header and rows are those of this circuit over the prime
 pub record Encodes (xs : List ℕ) (p : ℕ) (c : Circuit) : Type 0 where
@@ -62,7 +62,7 @@ pub record Encodes (xs : List ℕ) (p : ℕ) (c : Circuit) : Type 0 where
 
 -- wires of 4 bytes and coefficients of 8
 abbrev pub Small : List Item → Type 0
-Small is = All (λ i. (i.wire < 2 ^ 32) × (i.coefficient < 2 ^ 64)) is
+Small is = AllByRecursion (λ i. (i.wire < 2 ^ 32) × (i.coefficient < 2 ^ 64)) is
 
 -- an item is taken off the front of bytes, if they have 12
 abbrev pub TakesItem : List ℕ → Option Item → List ℕ → Type 0

@@ -1,6 +1,6 @@
 -- A reader over a file's bytes, and what it hands out.
 use Rattle.std.specs.Prelude.{◌≡◌, ℕ, ◌+◌, ◌*◌, ◌^◌, ◌<◌, ◌≤◌, List, [], ◌∷◌, ◌++◌, length, drop, Option, Result, MatchOption, MatchResult}
-use Rattle.std.specs.List.{AllByRecursion as All}
+use Rattle.std.specs.List.{AllByRecursion}
 use Rattle.frames.specs.Little.{le4, le8, part}
 use Rattle.frames.specs.Checks.{place_of}
 use Rattle.constraints.specs.declared.header.Header.{Header}
@@ -60,7 +60,7 @@ pub record Ahead (s : RowReader) (ls : List Line) : Type 0 where
   pub size : s.at + length (row_bytes ls) ≡ s.stop
   pub within : s.stop ≤ length s.bytes.now
   pub left : s.left ≡ length ls
-  pub counts : All (λ l. (length l.a < 2 ^ 32) × (length l.b < 2 ^ 32) × (length l.c < 2 ^ 32)) ls
+  pub counts : AllByRecursion (λ l. (length l.a < 2 ^ 32) × (length l.b < 2 ^ 32) × (length l.c < 2 ^ 32)) ls
 
 -- the row handed out is the first of these
 abbrev pub First : List Line → Row → Type 0

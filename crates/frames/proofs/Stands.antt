@@ -1,7 +1,7 @@
 -- The sections of a file, from its sections to its bytes and back.
 use Rattle.std.proofs.Common.{◌≡◌, ℕ, zero, suc, ◌+◌, ◌-◌, ◌^◌, ◌<◌, ◌≤◌, true, ◌&&◌, ◌||◌, eqb, leb, List, [], ◌∷◌, ◌++◌, length, take, drop, Some, None, sym, refl, ap, ◌∙◌, append_assoc, add_assoc, arith, length-drop, length-take-le, drop-drop, take_at, eq-eqb, ne_eqb, eqb-true, leb-true}
 use lib.Seq.{drop-length}
-use Rattle.std.specs.List.{AllByRecursion as All}
+use Rattle.std.specs.List.{AllByRecursion}
 use Rattle.std.proofs.lemmas.Bool.Decides.{nat_tests}
 use Rattle.std.proofs.lemmas.Bool.{and_parts}
 use Rattle.frames.specs.Little.{little, le4, le8, Bytes}
@@ -46,7 +46,7 @@ module _ (xs : List ℕ) where
         after = rw e w;
       }
 
-  rest_right : (ss : List Block) (at : ℕ) → All Sized ss → All Apart ss → Rest xs at (blocks_bytes ss)
+  rest_right : (ss : List Block) (at : ℕ) → AllByRecursion Sized ss → AllByRecursion Apart ss → Rest xs at (blocks_bytes ss)
       → (framed xs (length ss) at ≡ None) × (others xs (length ss) at ≡ None)
   unfolding blocks_bytes
   rest_right [] at z a r = (framed_done xs at (omega (arith, r.size)), others_done xs at)
@@ -136,7 +136,7 @@ module _ (xs : List ℕ) (small : Bytes xs) where
       ((le4_lt xs small at, l), simp (append_assoc, e) (four_back xs small at (omega arith) ∙ ap (λ l. little 4 (le4 xs at) ++ l) (b ∙ ap (λ l. little 8 n ++ l) c)))
 
   rest_back : (n at : ℕ) → framed xs n at ≡ None → others xs n at ≡ None
-      → (ss : List Block) × (length ss ≡ n) × All Sized ss × All Apart ss × (drop at xs ≡ blocks_bytes ss)
+      → (ss : List Block) × (length ss ≡ n) × AllByRecursion Sized ss × AllByRecursion Apart ss × (drop at xs ≡ blocks_bytes ss)
   unfolding framed others blocks_bytes
   rest_back zero at f o = ([], refl, tt, tt, ap (λ n. drop n xs) (eqb-true at (length xs) (passed (eqb at (length xs)) None 8 at f).0) ∙ drop-length xs)
   rest_back (suc n) at f o =

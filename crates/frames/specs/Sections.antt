@@ -1,6 +1,6 @@
 -- What a file is: a start, and sections in frames, which are looked up by their kinds.
 use Rattle.std.specs.Prelude.{◌≡◌, ℕ, ◌^◌, ◌<◌, cond, List, [], ◌∷◌, ◌++◌, length, Some, None, Option, ◌==◌}
-use Rattle.std.specs.List.{AllByRecursion as All}
+use Rattle.std.specs.List.{AllByRecursion}
 use Rattle.frames.specs.Little.{little}
 
 -- a section
@@ -28,11 +28,11 @@ section_of kind (s ∷ ss) = cond (s.kind == kind) (Some s.payload) (section_of 
 abbrev pub Ordered : List Block → Type 0
 Ordered [] = ⊥
 Ordered (h ∷ []) = ⊥
-Ordered (h ∷ (b ∷ ss)) = (h.kind ≡ 1) × (b.kind ≡ 2) × All (λ s. ¬ (s.kind ≡ 1) × ¬ (s.kind ≡ 2)) ss
+Ordered (h ∷ (b ∷ ss)) = (h.kind ≡ 1) × (b.kind ≡ 2) × AllByRecursion (λ s. ¬ (s.kind ≡ 1) × ¬ (s.kind ≡ 2)) ss
 
 -- the bytes are those of these sections, each number small enough for its bytes
 pub record Consists (magic version : ℕ) (xs : List ℕ) (ss : List Block) : Type 0 where
   pub bytes : xs ≡ file_bytes magic version ss
   pub count : length ss < 2 ^ 32
-  pub sizes : All (λ s. (s.kind < 2 ^ 32) × (length s.payload < 2 ^ 64)) ss
+  pub sizes : AllByRecursion (λ s. (s.kind < 2 ^ 32) × (length s.payload < 2 ^ 64)) ss
   pub order : Ordered ss

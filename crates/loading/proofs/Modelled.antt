@@ -1,7 +1,7 @@
 -- Entries that lie within a sheet, and have room, are all taken by the model.
 use Rattle.std.proofs.Common.{◌≡◌, ℕ, ◌+◌, ◌<◌, ◌≤◌, true, List, [], ◌∷◌, ◌++◌, map, length, None, sym, refl, ap, ◌∙◌, append_assoc, append-nil, arith, length-append, lt-ltb}
 use lib.ListN.{length-map}
-use Rattle.std.specs.List.{AllByRecursion as All}
+use Rattle.std.specs.List.{AllByRecursion}
 use Rattle.std.proofs.ByRecursion.{All-append, All-map, All-weaker}
 use Rattle.std.proofs.lemmas.List.{length_push}
 use Rattle.std.proofs.lemmas.Bool.{and_from}
@@ -28,7 +28,7 @@ module _ {F : Type 0} (O : Operations F) where
       let due : enter_due b.shape (length b.entries) table_size e.matrix e.row e.wire ≡ None = rw (i, lt-ltb (length b.entries) table_size room) in
       ap (λ (d : Due). with_entry d e b) due
 
-  pub all_taken : (ns : List (Entry F)) (b : Model F) → All (Inside b.shape) ns → length b.entries + length ns ≤ table_size
+  pub all_taken : (ns : List (Entry F)) (b : Model F) → AllByRecursion (Inside b.shape) ns → length b.entries + length ns ≤ table_size
       → after_all b (map enter_call ns) ≡ with_all b ns
   all_taken [] b a room = λ i. record { shape = b.shape; entries = sym (append-nil b.entries) i; values = b.values }
   all_taken (e ∷ ns) b a room =
@@ -43,13 +43,13 @@ module _ {F : Type 0} (O : Operations F) where
   entries_count row (l ∷ ls) = simp (length-append, length-map) (omega (arith, entries_count (row + 1) ls))
 
   module _ (S : Shape) (w p : ℕ) (wires : S.m ≡ w) where
-    list_inside : (matrix row : ℕ) (is : List Item) → matrix < 3 → row < S.N → Below w p is → All (Inside S) (list_entries O matrix row is)
+    list_inside : (matrix row : ℕ) (is : List Item) → matrix < 3 → row < S.N → Below w p is → AllByRecursion (Inside S) (list_entries O matrix row is)
     list_inside matrix row is m r b =
         All-map (Inside S) _ is
         (All-weaker _ _ (λ i h. and_from _ _ (lt-ltb matrix 3 m) (and_from _ _ (lt-ltb row S.N r) (lt-ltb i.wire S.m (omega (arith, h.0, wires))))) is b.1)
 
-    pub entries_inside : (row : ℕ) (ls : List Line) → row + length ls ≤ S.N → All (λ l. Below w p l.a × Below w p l.b × Below w p l.c) ls
-        → All (Inside S) (entries_from O row ls)
+    pub entries_inside : (row : ℕ) (ls : List Line) → row + length ls ≤ S.N → AllByRecursion (λ l. Below w p l.a × Below w p l.b × Below w p l.c) ls
+        → AllByRecursion (Inside S) (entries_from O row ls)
     entries_inside row [] h a = tt
     entries_inside row (l ∷ ls) h a =
         let r : row < S.N = omega arith in
@@ -60,11 +60,11 @@ module _ {F : Type 0} (O : Operations F) where
         (entries_inside (row + 1) ls (omega arith) a.1)
 
 -- nothing is passed over
-below_all : (w p : ℕ) (is : List Item) → All (λ i. (i.wire < w) × (i.coefficient < p)) is → below p is ≡ is
+below_all : (w p : ℕ) (is : List Item) → AllByRecursion (λ i. (i.wire < w) × (i.coefficient < p)) is → below p is ≡ is
 below_all w p [] a = refl
 below_all w p (i ∷ is) a = rw (lt-ltb i.coefficient p a.0.1) (ap (λ js. i ∷ js) (below_all w p is a.1))
 
-pub lines_below : (w p : ℕ) (ls : List Line) → All (λ l. Below w p l.a × Below w p l.b × Below w p l.c) ls → map (line_below p) ls ≡ ls
+pub lines_below : (w p : ℕ) (ls : List Line) → AllByRecursion (λ l. Below w p l.a × Below w p l.b × Below w p l.c) ls → map (line_below p) ls ≡ ls
 lines_below w p [] a = refl
 lines_below w p (l ∷ ls) a =
     let la = below_all w p l.a a.0.0.1 in

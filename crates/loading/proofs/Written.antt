@@ -1,6 +1,6 @@
 -- A reader that stands before the rows of a circuit has just those rows.
 use Rattle.std.proofs.Common.{◌≡◌, ℕ, ◌^◌, ◌<◌, ◌≤◌, List, [], ◌∷◌, ◌++◌, length, drop, sym, refl, ap, ◌∙◌, arith, length-append, length-drop}
-use Rattle.std.specs.List.{AllByRecursion as All}
+use Rattle.std.specs.List.{AllByRecursion}
 use Rattle.std.proofs.ByRecursion.{All-weaker}
 use Rattle.frames.proofs.Bytes.{Rest, skip, four, eight, whole, length_little}
 use Rattle.constraints.specs.declared.item.Item.{Item}
@@ -26,7 +26,7 @@ items_written (i ∷ is) a =
 
 module _ (w p : ℕ) (wide : w < 2 ^ 32) (small : p < 2 ^ 64) where
   abbrev AllBelow : List Line → Type 0
-  AllBelow ls = All (λ l. Below w p l.a × Below w p l.b × Below w p l.c) ls
+  AllBelow ls = AllByRecursion (λ l. Below w p l.a × Below w p l.b × Below w p l.c) ls
 
   below_small : (is : List Item) → Below w p is → Small is
   below_small is b = All-weaker _ _ (λ i h. (omega (arith, h.0, wide), omega (arith, h.1, small))) is b.1

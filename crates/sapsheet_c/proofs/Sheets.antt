@@ -1,6 +1,6 @@
 -- What is answered of a sheet that stands for a model.
 use Rattle.std.proofs.Common.{◌≡◌, ℕ, ◌+◌, ◌-◌, ◌*◌, ◌<◌, ◌≤◌, Bool, true, false, leb, List, ◌++◌, map, length, take, drop, None, Ok, Err, sym, refl, ap, ◌∙◌, subst, inl, inr, arith, lit≤, length-take-le}
-use Rattle.std.specs.List.{AllByRecursion as All}
+use Rattle.std.specs.List.{AllByRecursion}
 use Rattle.std.proofs.lemmas.Bool.{le-leb, lt-leb}
 use Rattle.refusal.specs.Due.{unless}
 use Rattle.refusal.specs.Numbers.{number_of}
@@ -65,7 +65,7 @@ module _ {F : Type 0} {O : Operations F} (L : Laws O) (p : ℕ) (h : Head) (es :
     places = work_is ∙ ap (λ k. k + 4 * h.n) wide ∙ ap (λ k. columns b.shape + 4 * k) large
 
     pub granted : (new : List ℕ) → Divided O h es vs h₀ work (Ok tt) h'
-        → (ns : List ℕ) × (h' ≡ map (ones O) ns) × All (λ v. v < p) ns × (new ≡ value_bytes ns ++ drop (8 * length ns) old)
+        → (ns : List ℕ) × (h' ≡ map (ones O) ns) × AllByRecursion (λ v. v < p) ns × (new ≡ value_bytes ns ++ drop (8 * length ns) old)
         → ComesTo 0 new
     granted new divides (ns, numbers, all, there) =
         let is = quotient_is L b (sheet h es vs) stands one within h₀ h' work size places divides in

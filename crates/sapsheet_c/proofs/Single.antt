@@ -1,6 +1,6 @@
 -- Bytes come to one outcome only: a file encodes one thing, a model has one quotient, and an element one number.
 use Rattle.std.proofs.Common.{◌≡◌, ℕ, ◌<◌, Bool, true, false, cond, List, [], ◌∷◌, map, Some, None, sym, refl, ap, ◌∙◌, subst, ap₂, inl, inr, arith}
-use Rattle.std.specs.List.{AllByRecursion as All}
+use Rattle.std.specs.List.{AllByRecursion}
 use Rattle.refusal.specs.Due.{Due}
 use Rattle.field.specs.Operations.{Operations, ones}
 use Rattle.modular.specs.Field97.{ops97}
@@ -27,7 +27,7 @@ single_or None o o' P P' h x y = h x y
 single_or (Some q) o o' P P' h x y = x ∙ sym y
 
 module _ {F : Type 0} (O : Operations F) (p : ℕ) (distinct : (u v : ℕ) → u < p → v < p → ones O u ≡ ones O v → u ≡ v) where
-  numbers_same : (ns ms : List ℕ) → All (λ v. v < p) ns → All (λ v. v < p) ms → map (ones O) ns ≡ map (ones O) ms → ns ≡ ms
+  numbers_same : (ns ms : List ℕ) → AllByRecursion (λ v. v < p) ns → AllByRecursion (λ v. v < p) ms → map (ones O) ns ≡ map (ones O) ms → ns ≡ ms
   numbers_same [] [] a b e = refl
   numbers_same [] (m ∷ ms) a b e = let z : ◌≡◌ {A = ℕ} 0 1 = cc in absurd (omega arith)
   numbers_same (n ∷ ns) [] a b e = let z : ◌≡◌ {A = ℕ} 0 1 = cc in absurd (omega arith)

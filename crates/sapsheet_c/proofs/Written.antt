@@ -1,7 +1,7 @@
 -- Numbers written one behind the other.
 use Rattle.std.proofs.Common.{◌≡◌, ℕ, ◌+◌, ◌*◌, ◌<◌, ◌≤◌, List, [], ◌∷◌, ◌++◌, map, length, get_or, take, drop, sym, refl, ap, ◌∙◌, subst, append_assoc, append-nil, zero-add, arith, length-append, length-take-le}
 use lib.ListN.{length-map}
-use Rattle.std.specs.List.{AllByRecursion as All}
+use Rattle.std.specs.List.{AllByRecursion}
 use Rattle.std.proofs.ByRecursion.{All-append}
 use Rattle.std.proofs.lemmas.List.{take_more, map-append}
 use Rattle.field.specs.Operations.{Operations, ones}
@@ -24,7 +24,7 @@ value_bytes_push (w ∷ vs) v = rw (value_bytes_push vs v) (simp append_assoc)
 module _ {F : Type 0} (O : Operations F) (p : ℕ) where
   -- the numbers of these elements stand at the front of the buffer, and all else is as it was
   abbrev pub Front : List F → (old new : List ℕ) → Type 0
-  Front xs old new = (ns : List ℕ) × (xs ≡ map (ones O) ns) × All (λ v. v < p) ns × Put old 0 (value_bytes ns) new
+  Front xs old new = (ns : List ℕ) × (xs ≡ map (ones O) ns) × AllByRecursion (λ v. v < p) ns × Put old 0 (value_bytes ns) new
 
   pub front_none : (old : List ℕ) → Front [] old old
   unfolding value_bytes
@@ -44,6 +44,6 @@ module _ {F : Type 0} (O : Operations F) (p : ℕ) where
       )
 
   pub front_all : (xs ys : List F) (old new : List ℕ) → xs ≡ ys → Front xs old new
-      → (ns : List ℕ) × (ys ≡ map (ones O) ns) × All (λ v. v < p) ns × (new ≡ value_bytes ns ++ drop (8 * length ns) old)
+      → (ns : List ℕ) × (ys ≡ map (ones O) ns) × AllByRecursion (λ v. v < p) ns × (new ≡ value_bytes ns ++ drop (8 * length ns) old)
   front_all xs ys old new e (ns, same, all, there) =
       (ns, sym e ∙ same, all, put_front old new (value_bytes ns) there ∙ ap (λ k. value_bytes ns ++ drop k old) (length_value_bytes ns))

@@ -1,6 +1,6 @@
 -- What the bytes of a constraint file and of an assignment file, with room for so many bytes, come to: by the order of the checks.
 use Rattle.std.specs.Prelude.{◌≡◌, ℕ, ◌-◌, ◌*◌, ◌<◌, Bool, false, cond, ◌⊎◌, List, map, Some, None, MatchOption, ◌==◌, nat_le}
-use Rattle.std.specs.List.{AllByRecursion as All}
+use Rattle.std.specs.List.{AllByRecursion}
 use Rattle.refusal.specs.Due.{Due, unless}
 use Rattle.field.specs.Operations.{Operations, ones}
 use Rattle.modular.specs.Field97.{ops97}
@@ -26,7 +26,7 @@ module _ {F : Type 0} (O : Operations F) (p : ℕ) where
   -- every row holds, and these are the numbers of the one quotient; or a row fails, and there is none
   abbrev pub Solved : Model F → Outcome → Type 0
   Solved b o =
-      ((ns : List ℕ) × QuotientIs O b (map (ones O) ns) × All (λ v. v < p) ns × (o ≡ quotient ns))
+      ((ns : List ℕ) × QuotientIs O b (map (ones O) ns) × AllByRecursion (λ v. v < p) ns × (o ≡ quotient ns))
       ⊎ ((row : ℕ) × FailsAt O b row × (o ≡ refused 7))
 
   abbrev pub SolvedWithin : (room : ℕ) → Model F → Outcome → Type 0

@@ -1,6 +1,6 @@
 // Elements of a prime field written as their numbers.
 ghost use Rattle.std.specs.Prelude.{◌≡◌, ℕ, ◌*◌, ◌<◌, ◌≤◌, List, ◌++◌, map, length, drop};
-ghost use Rattle.std.specs.List.{AllByRecursion as All};
+ghost use Rattle.std.specs.List.{AllByRecursion};
 ghost use Rattle.field.specs.Operations.{ones};
 ghost use Rattle.assignments.specs.Assignment.{value_bytes};
 
@@ -20,7 +20,7 @@ fn number_of<F: FileField>(x: F) -> u64
 pub(crate) fn write_numbers<F: FileField>(xs: &[F], out: &mut [u8])
     requires single { F.width ≡ 1 }
     requires room { 8 * length xs.now ≤ length out.old }
-    ensures { (ns : List ℕ) × (xs.now ≡ map (ones F.ops) ns) × All (λ v. v < F.prime) ns × (out.new ≡ value_bytes ns ++ drop (8 * length ns) out.old) }
+    ensures { (ns : List ℕ) × (xs.now ≡ map (ones F.ops) ns) × AllByRecursion (λ v. v < F.prime) ns × (out.new ≡ value_bytes ns ++ drop (8 * length ns) out.old) }
 {
     for (i, x) in xs.iter().enumerate() {
         put_long(out, 8 * i, number_of(*x));

@@ -1,6 +1,6 @@
 -- The model of two files: one stands on wire 0, each entry lies within the sheet, and tables of the largest lengths serve every circuit.
 use Rattle.std.proofs.Common.{◌≡◌, ℕ, ◌≤◌, Bool, true, false, ◌&&◌, eqb, leb, List, [], ◌∷◌, map, length, get_or, refl, ap, ◌∙◌, not-suc-le-zero, arith}
-use Rattle.std.specs.List.{AllByRecursion as All}
+use Rattle.std.specs.List.{AllByRecursion}
 use Rattle.std.proofs.lemmas.Bool.{and_parts, and_from, leb-true, eq-eqb}
 use Rattle.refusal.specs.Due.{Due, unless}
 use Rattle.field.specs.Operations.{Operations, sum, ones}
@@ -34,7 +34,7 @@ module _ {F : Type 0} {O : Operations F} (L : Laws O) where
 
 -- ── Entries ──
 
-all_within : {F : Type 0} (S : Shape) (es : List (Entry F)) → All (λ e. inside S e.matrix e.row e.wire ≡ true) es → all_inside S es ≡ true
+all_within : {F : Type 0} (S : Shape) (es : List (Entry F)) → AllByRecursion (λ e. inside S e.matrix e.row e.wire ≡ true) es → all_inside S es ≡ true
 all_within S [] a = refl
 all_within S (e ∷ es) a = and_from _ _ a.0 (all_within S es a.1)
 

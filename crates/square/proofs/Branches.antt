@@ -1,19 +1,19 @@
 -- What is chosen by a decision, and what stands at an even or an odd place.
 use Rattle.std.proofs.Common.{◌≡◌, ℕ, ◌+◌, ◌*◌, ◌/◌, ◌%◌, ◌<◌, refl, ap, ◌∙◌, arith}
 use native.Mathlib.Decide.{ℕ_discrete}
-use Rattle.square.specs.Rows.{if◌then◌else◌}
+use Rattle.square.specs.Rows.{when◌then◌else◌}
 use Rattle.square.specs.Program.{by_turns}
 
-pub if_yes : {P X : Type 0} (d : Dec P) (x y : X) → P → (if d then x else y) ≡ x
+pub if_yes : {P X : Type 0} (d : Dec P) (x y : X) → P → (when d then x else y) ≡ x
 if_yes (yes _) x y p = refl
 if_yes (no h) x y p = absurd (h p)
 
-pub if_no : {P X : Type 0} (d : Dec P) (x y : X) → ¬ P → (if d then x else y) ≡ y
+pub if_no : {P X : Type 0} (d : Dec P) (x y : X) → ¬ P → (when d then x else y) ≡ y
 if_no (yes p) x y h = absurd (h p)
 if_no (no _) x y h = refl
 
 -- what holds of either branch holds of the choice
-pub if_cases : {P X : Type 0} (G : X → Type 0) (d : Dec P) (x y : X) → (P → G x) → (¬ P → G y) → G (if d then x else y)
+pub if_cases : {P X : Type 0} (G : X → Type 0) (d : Dec P) (x y : X) → (P → G x) → (¬ P → G y) → G (when d then x else y)
 if_cases G (yes p) x y f g = f p
 if_cases G (no h) x y f g = g h
 

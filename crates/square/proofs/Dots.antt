@@ -5,7 +5,7 @@ use Rattle.field.specs.Operations.{Operations}
 use Rattle.field.specs.Laws.{Laws}
 use Rattle.field.proofs.Ring.{one_mul, zero_mul, add_mul, neg_mul}
 use Rattle.transform.proofs.Sums.{sum_ext, sum_none, sum_add, sum_neg, sum_mul, sum_one}
-use Rattle.square.specs.Rows.{if◌then◌else◌, only, dot}
+use Rattle.square.specs.Rows.{when◌then◌else◌, only, dot}
 use Rattle.square.proofs.Branches.{if_yes, if_no, if_cases}
 
 module _ {F : Type 0} {O : Operations F} (L : Laws O) where
@@ -67,6 +67,6 @@ module _ {F : Type 0} {O : Operations F} (L : Laws O) where
     unfolding only
     dot_within i j c z = go (ℕ_discrete i j)
       where
-        go : (d : Dec (i ≡ j)) → dot O n (λ w. if d then c w else 𝟘) z ≡ (if d then dot O n c z else 𝟘)
+        go : (d : Dec (i ≡ j)) → dot O n (λ w. when d then c w else 𝟘) z ≡ (when d then dot O n c z else 𝟘)
         go (yes _) = refl
         go (no _) = dot_zero z

@@ -4,11 +4,11 @@ use Rattle.std.proofs.Math.Decide.{ℕ_discrete, dec_lt}
 use Rattle.field.specs.Operations.{Operations, sum}
 use Rattle.transform.specs.Polynomial.{table}
 use Rattle.sheet.specs.Shape.{Shape, stride, columns}
-use Rattle.square.specs.Rows.{if◌then◌else◌, only, dot, row_sum}
+use Rattle.square.specs.Rows.{when◌then◌else◌, only, dot, row_sum}
 
 -- number t of f 0, g 0, f 1, g 1, ..
 unfoldable pub by_turns : {X : Type 0} → (ℕ → X) → (ℕ → X) → ℕ → X
-by_turns f g t = if ℕ_discrete (t % 2) 0 then f (t / 2) else g (t / 2)
+by_turns f g t = when ℕ_discrete (t % 2) 0 then f (t / 2) else g (t / 2)
 
 -- what a row of the square program says
 pub data Kind : Type 0 where
@@ -35,19 +35,19 @@ module _ (S : Shape) where
   -- how many rows before r are no multiple of the stride
   unfoldable pub others : ℕ → ℕ
   others zero = 0
-  others (suc r) = if ℕ_discrete (r % stride S) 0 then others r else suc (others r)
+  others (suc r) = when ℕ_discrete (r % stride S) 0 then others r else suc (others r)
 
   -- of multiple number t of the stride
   unfoldable pub public_kind : ℕ → Kind
-  public_kind t = if dec_lt t (2 * l) then by_turns public_plus public_minus t else empty
+  public_kind t = when dec_lt t (2 * l) then by_turns public_plus public_minus t else empty
 
   -- of number x among the other rows
   unfoldable pub product_kind : ℕ → Kind
-  product_kind x = if dec_lt x (2 * N) then by_turns row_minus row_plus x else empty
+  product_kind x = when dec_lt x (2 * N) then by_turns row_minus row_plus x else empty
 
   -- of row r
   unfoldable pub kind : ℕ → Kind
-  kind r = if ℕ_discrete (r % stride S) 0 then public_kind (r / stride S) else product_kind (others r)
+  kind r = when ℕ_discrete (r % stride S) 0 then public_kind (r / stride S) else product_kind (others r)
 
 module _ {F : Type 0} (O : Operations F) where
   open O use {one as 𝟙, add as ◌⊕◌, mul as ◌⊗◌, inverse}
@@ -71,7 +71,7 @@ module _ {F : Type 0} (O : Operations F) (S : Shape) where
   infixl 70 ◌⊗◌
   -- what stands for wire i in product rows: p_i - q_i if it is public, wire 0 included, else itself
   unfoldable pub image : ℕ → ℕ → F
-  image i w = if dec_lt i l then only O (p_wire S i) w 𝟙 ⊕ neg (only O (q_wire S i) w 𝟙) else only O i w 𝟙
+  image i w = when dec_lt i l then only O (p_wire S i) w 𝟙 ⊕ neg (only O (q_wire S i) w 𝟙) else only O i w 𝟙
 
   -- a sum over the sheet's wires with each wire so replaced
   unfoldable pub replaced : (ℕ → F) → ℕ → F
@@ -109,13 +109,13 @@ module _ {F : Type 0} (O : Operations F) (S : Shape) (c : (matrix row wire : ℕ
   -- p_0, q_0, p_1, .., then s_0, s_1, ..: what their rows demand at the sheet's values v
   unfoldable pub demanded : (ℕ → F) → ℕ → F
   demanded v t =
-      if dec_lt t (2 * l)
+      when dec_lt t (2 * l)
       then by_turns (λ j. square O (half O ⊗ (v j ⊕ v 0))) (λ j. square O (half O ⊗ (v j ⊕ neg (v 0)))) t
       else square O (row_sum O S c v 0 (t - 2 * l) ⊕ neg (row_sum O S c v 1 (t - 2 * l)))
 
   -- the value of every wire of the square program: the sheet's, then those
   unfoldable pub extended_at : (ℕ → F) → ℕ → F
-  extended_at v w = if dec_lt w m then v w else demanded v (w - m)
+  extended_at v w = when dec_lt w m then v w else demanded v (w - m)
 
   unfoldable pub extended : (ℕ → F) → List F
   extended v = table (columns S) (extended_at v)

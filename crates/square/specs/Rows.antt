@@ -5,10 +5,10 @@ use Rattle.field.specs.Operations.{Operations, sum, decided}
 use Rattle.sheet.specs.Shape.{Shape}
 use Rattle.sheet.specs.declared.entry.Entry.{Entry}
 
-infix 10 if◌then◌else◌
-abbrev pub if◌then◌else◌ : {P X : Type 0} → Dec P → X → X → X
-if◌then◌else◌ (yes _) x y = x
-if◌then◌else◌ (no _) x y = y
+infix 10 when◌then◌else◌
+abbrev pub when◌then◌else◌ : {P X : Type 0} → Dec P → X → X → X
+when◌then◌else◌ (yes _) x y = x
+when◌then◌else◌ (no _) x y = y
 
 -- the first of i, i + 1, .., i + count - 1 that fails the test
 unfoldable pub first_failure : (ℕ → Bool) → (count i : ℕ) → Option ℕ
@@ -22,7 +22,7 @@ module _ {F : Type 0} (O : Operations F) where
   infixl 70 ◌⊗◌
   -- x where i is j, else 0
   unfoldable pub only : ℕ → ℕ → F → F
-  only i j x = if ℕ_discrete i j then x else 𝟘
+  only i j x = when ℕ_discrete i j then x else 𝟘
 
   -- the coefficient of a position: the sum over the entries there
   unfoldable pub position : List (Entry F) → (matrix row wire : ℕ) → F

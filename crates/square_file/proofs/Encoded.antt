@@ -1,7 +1,7 @@
 -- The file encodes the square program.
 use Rattle.std.proofs.Common.{◌≡◌, ℕ, zero, suc, ◌+◌, ◌^◌, ◌<◌, ◌≤◌, true, ◌&&◌, List, [], ◌∷◌, ◌++◌, length, take, drop, sym, refl, inl, inr, arith, take_at}
 use lib.ListN.{length-map}
-use Rattle.std.specs.List.{AllByRecursion as All}
+use Rattle.std.specs.List.{AllByRecursion}
 use Rattle.std.proofs.lemmas.Bool.{and_parts, cases_eq}
 use Rattle.field.specs.Operations.{Operations}
 use Rattle.transform.specs.Polynomial.{table}
@@ -20,14 +20,14 @@ use Rattle.square_file.proofs.RowLists.{first_rows}
 use Rattle.square_file.proofs.PutLists.{length_labels}
 use Rattle.square_file.proofs.FileParts.{length_header}
 
-all_table : {X : Type 0} (P : X → Type 0) (n : ℕ) (f : ℕ → X) → ((i : ℕ) → i < n → P (f i)) → All P (table n f)
+all_table : {X : Type 0} (P : X → Type 0) (n : ℕ) (f : ℕ → X) → ((i : ℕ) → i < n → P (f i)) → AllByRecursion P (table n f)
 unfolding table
 all_table P zero f h = tt
 all_table P (suc n) f h = (h 0 (omega arith), all_table P n (λ i. f (suc i)) (λ i l. h (suc i) (omega arith)))
 
 module _ {F : Type 0} (O : Operations F) (p : ℕ) where
   abbrev Bounded : ℕ → List (Term F) → Type 0
-  Bounded M ts = all_plain O p ts ≡ true → All (λ i. (i.wire < M) × (i.coefficient < p)) (items O p ts)
+  Bounded M ts = all_plain O p ts ≡ true → AllByRecursion (λ i. (i.wire < M) × (i.coefficient < p)) (items O p ts)
 
   terms_bounded : (M n from : ℕ) (f : ℕ → F) → from + n ≤ M → Bounded M (terms O n from f)
   unfolding terms

@@ -1,7 +1,7 @@
 -- The terms of a linear combination, from one to the next.
 use Rattle.std.proofs.Common.{◌≡◌, ℕ, zero, suc, ◌+◌, ◌-◌, ◌<◌, ◌≤◌, List, [], ◌∷◌, length, Some, sym, refl, ap, ◌∙◌, ap₂, add-zero, zero-add, arith}
 use Rattle.field.specs.Operations.{Operations}
-use Rattle.square.specs.Rows.{if◌then◌else◌}
+use Rattle.square.specs.Rows.{when◌then◌else◌}
 use Rattle.square.proofs.Branches.{if_yes, if_no, if_cases}
 use Rattle.square_rows.specs.declared.term.Term.{Term}
 use Rattle.square_rows.specs.Combined.{FirstTerm}
@@ -59,8 +59,8 @@ module _ {F : Type 0} (O : Operations F) where
   unfolding terms
   terms_ext zero from f g h = refl
   terms_ext (suc n) from f g h =
-      ap (λ x. if O.same x O.zero then terms O n (from + 1) f else term from x ∷ terms O n (from + 1) f) (h from)
-      ∙ ap (λ l. if O.same (g from) O.zero then l else term from (g from) ∷ l) (terms_ext n (from + 1) f g h)
+      ap (λ x. when O.same x O.zero then terms O n (from + 1) f else term from x ∷ terms O n (from + 1) f) (h from)
+      ∙ ap (λ l. when O.same (g from) O.zero then l else term from (g from) ∷ l) (terms_ext n (from + 1) f g h)
 
   -- no more terms than wires
   pub terms_most : (n from : ℕ) (f : ℕ → F) → length (terms O n from f) ≤ n

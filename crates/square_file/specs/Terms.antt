@@ -3,7 +3,7 @@ use Rattle.std.specs.Prelude.{ℕ, zero, suc, ◌+◌, Bool, true, ◌&&◌, Lis
 use Rattle.field.specs.Operations.{Operations}
 use Rattle.sheet.specs.Shape.{Shape, columns}
 use Rattle.sheet.specs.declared.entry.Entry.{Entry}
-use Rattle.square.specs.Rows.{if◌then◌else◌, position}
+use Rattle.square.specs.Rows.{when◌then◌else◌, position}
 use Rattle.square_rows.specs.declared.term.Term.{Term}
 use Rattle.square_rows.specs.declared.combination.Combination.{Combination}
 use Rattle.square_rows.specs.Combined.{combined}
@@ -15,7 +15,7 @@ module _ {F : Type 0} (O : Operations F) where
   unfoldable pub terms : (count from : ℕ) → (ℕ → F) → List (Term F)
   terms zero from f = []
   terms (suc count) from f =
-      if O.same (f from) O.zero
+      when O.same (f from) O.zero
       then terms count (from + 1) f
       else record { wire = from; coefficient = f from } ∷ terms count (from + 1) f
 

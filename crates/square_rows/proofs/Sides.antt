@@ -6,7 +6,7 @@ use Rattle.field.specs.Laws.{Laws}
 use Rattle.field.proofs.Ring.{zero_add, neg_zero}
 use Rattle.field.proofs.Solve.{⓪, ①, ◌⊞◌, ◌⊠◌, ◌⊟◌, ∸◌, ◌≈◌, by_ring}
 use Rattle.sheet.specs.Shape.{Shape}
-use Rattle.square.specs.Rows.{if◌then◌else◌, only}
+use Rattle.square.specs.Rows.{when◌then◌else◌, only}
 use Rattle.square.specs.Program.{public_plus, public_minus, row_minus, row_plus, empty, p_wire, q_wire, s_wire, half, four, replaced, U, W}
 use Rattle.square.proofs.Dots.{only_zero}
 use Rattle.square_rows.specs.declared.combination.Combination.{Combination}
@@ -22,7 +22,7 @@ module _ {F : Type 0} {O : Operations F} (L : Laws O) where
   unfolding only
   only_neg i j x = go (ℕ_discrete i j)
     where
-      go : (d : Dec (i ≡ j)) → (if d then neg x else 𝟘) ≡ neg (if d then x else 𝟘)
+      go : (d : Dec (i ≡ j)) → (when d then neg x else 𝟘) ≡ neg (when d then x else 𝟘)
       go (yes _) = refl
       go (no _) = sym (neg_zero L.ring)
 

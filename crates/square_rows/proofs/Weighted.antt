@@ -9,7 +9,7 @@ use Rattle.field.proofs.Solve.{⓪, ①, ◌⊞◌, ◌⊠◌, ◌⊟◌, ∸◌
 use Rattle.transform.proofs.Sums.{sum_ext, sum_none, sum_add, sum_mul, sum_one}
 use Rattle.sheet.specs.Shape.{Shape}
 use Rattle.sheet.specs.declared.entry.Entry.{Entry}
-use Rattle.square.specs.Rows.{if◌then◌else◌, only, position}
+use Rattle.square.specs.Rows.{when◌then◌else◌, only, position}
 use Rattle.square.specs.Program.{p_wire, q_wire, image, replaced}
 use Rattle.square.proofs.Branches.{if_yes, if_no}
 use Rattle.square.proofs.Dots.{only_same, only_other}
@@ -26,7 +26,7 @@ module _ {F : Type 0} {O : Operations F} (L : Laws O) where
   unfolding only
   only_mul i j x y = go (ℕ_discrete i j)
     where
-      go : (d : Dec (i ≡ j)) → x ⊗ (if d then y else 𝟘) ≡ (if d then x ⊗ y else 𝟘)
+      go : (d : Dec (i ≡ j)) → x ⊗ (when d then y else 𝟘) ≡ (when d then x ⊗ y else 𝟘)
       go (yes _) = refl
       go (no _) = mul_zero L.ring x
 

@@ -1,7 +1,7 @@
 -- The file encodes the numbers of the values, and these give the values back.
 use Rattle.std.proofs.Common.{◌≡◌, ℕ, ◌^◌, ◌<◌, ◌≤◌, true, List, [], ◌∷◌, ◌++◌, map, length, get_or, take, drop, Some, sym, refl, ap, ◌∙◌, inl, inr, arith, take_at}
 use lib.ListN.{length-map}
-use Rattle.std.specs.List.{AllByRecursion as All}
+use Rattle.std.specs.List.{AllByRecursion}
 use Rattle.std.proofs.lemmas.Bool.{and_parts, cases_lt}
 use Rattle.field.specs.Operations.{Operations, ones, sum}
 use Rattle.field.specs.Laws.{Laws}
@@ -15,7 +15,7 @@ use Rattle.value_file.specs.ValueFile.{block, all_plain, numbers, value_file_byt
 use Rattle.value_file.proofs.Parts.{length_header, length_numbers}
 
 module _ {F : Type 0} (O : Operations F) (p : ℕ) where
-  pub numbers_right : (vs : List F) → all_plain O p vs ≡ true → All (λ v. v < p) (numbers O p vs) × (map (ones O) (numbers O p vs) ≡ vs)
+  pub numbers_right : (vs : List F) → all_plain O p vs ≡ true → AllByRecursion (λ v. v < p) (numbers O p vs) × (map (ones O) (numbers O p vs) ≡ vs)
   numbers_right [] e = (tt, refl)
   numbers_right (x ∷ xs) e =
       let b = and_parts (is_plain O p x) (all_plain O p xs) e in

@@ -7,14 +7,14 @@ use Rattle.modular.specs.Field97.{only97, element97, ops97}
 use Rattle.modular.proofs.Laws97.{laws97}
 use Rattle.sheet.specs.Outcomes.{entry}
 use Rattle.sheet.specs.declared.entry.Entry.{Entry}
-use Rattle.square.specs.Rows.{if◌then◌else◌, only, position}
+use Rattle.square.specs.Rows.{when◌then◌else◌, only, position}
 use Rattle.worked.specs.Worked.{EntriesAdd}
 
 module _ {F : Type 0} {O : Operations F} (L : Laws O) where
   open O use {zero as 𝟘, add as ◌⊕◌}
 
   infixl 60 ◌⊕◌
-  chosen_add : {P : Type 0} (d : Dec P) (x y : F) → (if d then x else 𝟘) ⊕ (if d then y else 𝟘) ≡ (if d then x ⊕ y else 𝟘)
+  chosen_add : {P : Type 0} (d : Dec P) (x y : F) → (when d then x else 𝟘) ⊕ (when d then y else 𝟘) ≡ (when d then x ⊕ y else 𝟘)
   chosen_add (yes _) x y = refl
   chosen_add (no _) x y = L.ring.add_zero 𝟘
 
