@@ -7,10 +7,7 @@ cd "$(dirname "$0")/.."
 work=$(mktemp -d)
 trap 'rm -rf "$work"' EXIT
 
-if ! rt staticlib sapsheet_c >"$work/log" 2>&1; then
-    cat "$work/log"
-    exit 1
-fi
+tests/build lib sapsheet_c
 # the library, and nothing else beside the host's C library
-cc -std=c11 -O2 -Wall -Wextra -Werror -I examples/c examples/c/host.c target/staticlib/libsapsheet_c.a -o "$work/host"
+cc -std=c11 -O2 -Wall -Wextra -Werror -I examples/c examples/c/host.c crates/sapsheet_c/out/libsapsheet_c.a -o "$work/host"
 python3 tests/c_entry.py "$work/host" "$work"

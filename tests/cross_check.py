@@ -36,6 +36,11 @@ def all_cases(rng, scale):
     yield from value_files(rng, int(2000 * scale))
 
 
+def built(crate):
+    subprocess.run([ROOT / "tests/build", "run", crate], check=True)
+    return str(ROOT / "crates" / crate / "out" / crate)
+
+
 def answers(program, cases):
     """What the program prints, a line for each case."""
     with tempfile.NamedTemporaryFile(prefix="cases-") as file:
@@ -78,13 +83,14 @@ def print_counts(counts):
 
 def main():
     parser = argparse.ArgumentParser()
-    parser.add_argument("--batch", default=str(ROOT / "target/bin/batch"))
+    parser.add_argument("--batch", help="the program; without it the crate batch is built")
     parser.add_argument("--seed", type=int, default=20240229)
     parser.add_argument("--scale", type=float, default=1.0)
     args = parser.parse_args()
     worked.check()
+    program = args.batch or built("batch")
     cases = list(all_cases(Random(args.seed), args.scale))
-    lines, status = answers(args.batch, cases)
+    lines, status = answers(program, cases)
     counts = {}
     for case, found in zip(cases, lines + [None] * (len(cases) - len(lines))):
         expected = case.line()
@@ -92,7 +98,7 @@ def main():
             differs(case, expected, found)
         count(counts, case, expected)
     if status != 0 or len(lines) != len(cases):
-        sys.exit(f"{args.batch} ended with status {status} after {len(lines)} lines of {len(cases)}")
+        sys.exit(f"{program} ended with status {status} after {len(lines)} lines of {len(cases)}")
     print_counts(counts)
 
 

@@ -4,7 +4,8 @@
 set -euo pipefail
 cd "$(dirname "$0")/.."
 
-program=$PWD/target/bin/sapsheet
+tests/build run sapsheet
+program=$PWD/crates/sapsheet/out/sapsheet
 printed=$(mktemp)
 trap 'rm -f "$printed"' EXIT
 

@@ -21,8 +21,9 @@ def enclosing(source, at):
     indented = source.find("\n    {", last.start())
     ends = [e for e in (body, indented) if e >= 0]
     clause = source[last.end():min(ends)] if ends else ""
-    names = re.findall(r"(?:⌜ \(?|→ |r ≡ |\] )([A-Za-z][\w-]*)", " ".join(re.findall(r"ensures.*", clause)))
-    cited = [n for n in dict.fromkeys(names) if n not in ("now", "r", "ops", "let")]
+    names = re.findall(r"(?:\{ \(?|→ |result ≡ )([A-Za-z]\w*)(?![\w.])", " ".join(re.findall(r"ensures.*", clause)))
+    imported = set(re.findall(r"\w+", " ".join(re.findall(r"^ghost use .*\{(.*)\};", source, re.M))))
+    cited = [n for n in dict.fromkeys(names) if n in imported]
     return last.group(1), ", ".join(cited[:2])
 
 
