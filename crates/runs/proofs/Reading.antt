@@ -6,7 +6,7 @@ use Rattle.refusal.specs.Due.{Due, unless, unless_at, Decided}
 use Rattle.field.specs.Operations.{Operations, power}
 use Rattle.field.specs.Laws.{Laws}
 use Rattle.transform.specs.Polynomial.{coefficient, Root, Takes}
-use Rattle.transform.proofs.Tables.{length_table, getD_table}
+use Rattle.transform.proofs.Tables.{length_table, get_or_table}
 use Rattle.transform.proofs.Polynomials.{takes_exists, takes_unique, takes_ext}
 use Rattle.transform.proofs.Whole.{theory}
 use Rattle.sheet.specs.Shape.{Shape, log_of_n, k, n, stride, columns}
@@ -129,7 +129,7 @@ module _ {F : Type 0} {O : Operations F} (L : Laws O) where
           columns = λ j _. takes_exists L (log_of_n shape) (ω O shape) ω_root _;
           sums = λ column takes e h.
               public_coefficients L shape ready.fits c v ω_root column made.p takes rows e h
-              ∙ sym (ap (λ t. coefficient O t e) made.is ∙ getD_table (n shape) _ 𝟘 e h);
+              ∙ sym (ap (λ t. coefficient O t e) made.is ∙ get_or_table (n shape) _ 𝟘 e h);
         }
       where
         rows : Takes O (k shape) (power O (ω O shape) (stride shape)) (λ t. u_row O shape c v (t * stride shape)) made.p

@@ -8,7 +8,7 @@ use Rattle.transform.specs.Logarithm.{log2}
 use Rattle.transform.specs.Outcomes.{interpolate_due, UpperSquared}
 use Rattle.transform.specs.Polynomial.{table, coefficient, product_at, Root, Takes}
 use Rattle.transform.proofs.Logarithms.{log2_power}
-use Rattle.transform.proofs.Tables.{length_table, getD_table}
+use Rattle.transform.proofs.Tables.{length_table, get_or_table}
 use Rattle.transform.proofs.Polynomials.{takes_exists, takes_ext}
 use Rattle.sheet.specs.Shape.{Shape, log_of_n, n}
 use Rattle.sheet.specs.Outcomes.{Answer}
@@ -65,7 +65,7 @@ module _ {F : Type 0} {O : Operations F} (L : Laws O) where
         u_takes : Takes O (n S) (ω O S) left u
         u_takes =
             takes_ext L (n S) (ω O S) _ _ u
-            (λ r h. ap (λ t. coefficient O t r) written ∙ getD_table (n S) left O.zero r h)
+            (λ r h. ap (λ t. coefficient O t r) written ∙ get_or_table (n S) left O.zero r h)
             (rw (order, places) at takes)
 
         size : length u ≡ n S

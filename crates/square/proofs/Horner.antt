@@ -6,7 +6,7 @@ use Rattle.transform.specs.Polynomial.{table, value_at}
 use Rattle.transform.proofs.Sums.{sum_zero}
 use Rattle.transform.proofs.Series.{eval}
 use Rattle.transform.proofs.Values.{eval_ext, eval_first}
-use Rattle.transform.proofs.Tables.{length_table, getD_table}
+use Rattle.transform.proofs.Tables.{length_table, get_or_table}
 use Rattle.transform.proofs.Polynomials.{value_is_eval}
 
 module _ {F : Type 0} {O : Operations F} (L : Laws O) (y : ℕ → F) (x : F) (k t : ℕ) where
@@ -26,7 +26,7 @@ module _ {F : Type 0} {O : Operations F} (L : Laws O) (y : ℕ → F) (x : F) (k
   horner_all h =
       let whole : k - t ≡ k = omega arith in
       ap (λ n. eval O n (λ i. y (t + i)) x) whole
-      ∙ eval_ext L k _ _ x (λ i l. let place : t + i ≡ i = omega arith in ap y place ∙ sym (getD_table k y 𝟘 i l))
+      ∙ eval_ext L k _ _ x (λ i l. let place : t + i ≡ i = omega arith in ap y place ∙ sym (get_or_table k y 𝟘 i l))
       ∙ sym (value_is_eval L k (table k y) x (length_table k y))
 
 module _ {F : Type 0} {O : Operations F} (L : Laws O) (y : ℕ → F) (x : F) (k t : ℕ) where

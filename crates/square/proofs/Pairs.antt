@@ -3,7 +3,7 @@ use Rattle.std.proofs.Common.{◌≡◌, ℕ, ◌+◌, ◌-◌, ◌<◌, List, l
 use Rattle.field.specs.Operations.{Operations}
 use Rattle.field.specs.Laws.{Laws}
 use Rattle.transform.specs.Polynomial.{table, coefficient, product_at, Root, Takes}
-use Rattle.transform.proofs.Tables.{length_table, getD_table, is_table}
+use Rattle.transform.proofs.Tables.{length_table, get_or_table, is_table}
 use Rattle.transform.proofs.Polynomials.{takes_unique, quotient_upper, quotient_values, values_quotient}
 use Rattle.sheet.specs.Shape.{Shape, log_of_n, n, columns}
 use Rattle.square.specs.Rows.{AllHold}
@@ -26,7 +26,7 @@ module _ {F : Type 0} {O : Operations F} (L : Laws O) (S : Shape) (fits : Fits S
 
     pub extended_reads : (w : ℕ) → w < columns S → coefficient O (extended O S c v) w ≡ extended_at O S c v w
     unfolding extended
-    extended_reads w h = getD_table (columns S) (extended_at O S c v) 𝟘 w h
+    extended_reads w h = get_or_table (columns S) (extended_at O S c v) 𝟘 w h
 
     pub extended_is : (z : List F) → length z ≡ columns S → ((w : ℕ) → w < columns S → coefficient O z w ≡ extended_at O S c v w) → z ≡ extended O S c v
     unfolding extended

@@ -5,7 +5,7 @@ use Rattle.field.specs.Laws.{Laws}
 use Rattle.field.proofs.Ring.{zero_mul, mul_zero}
 use Rattle.transform.specs.Polynomial.{table, coefficient, value_at, Root, Takes}
 use Rattle.transform.proofs.Sums.{sum_ext, sum_none, sum_mul, sum_mul_right, sum_swap, sum_short}
-use Rattle.transform.proofs.Tables.{length_table, getD_table}
+use Rattle.transform.proofs.Tables.{length_table, get_or_table}
 use Rattle.transform.proofs.Series.{eval}
 use Rattle.transform.proofs.Polynomials.{value_is_eval, takes_ext, takes_spread}
 use Rattle.sheet.specs.Shape.{Shape, log_k, k, log_of_n, n, stride, columns}
@@ -35,7 +35,7 @@ module _ {F : Type 0} {O : Operations F} (L : Laws O) where
     unfolding eval weighted
     value_weighted x sizes =
         value_is_eval L size (table size weighted) x (length_table size weighted)
-        ∙ sum_ext L size _ _ (λ e h. ap (λ t. t ⊗ power O x e) (getD_table size weighted 𝟘 e h) ∙ term e)
+        ∙ sum_ext L size _ _ (λ e h. ap (λ t. t ⊗ power O x e) (get_or_table size weighted 𝟘 e h) ∙ term e)
         ∙ sum_swap L size l _
         ∙ sum_ext L l _ _ (λ j h. sum_mul L size (a j) _ ∙ ap (λ t. a j ⊗ t) (sym (value_is_eval L size (c j) x (sizes j h))))
       where
@@ -104,7 +104,7 @@ module _ {F : Type 0} {O : Operations F} (L : Laws O) where
           → (e : ℕ) → e < n S → Σ l (λ j. z j ⊗ coefficient O (column j) e) ≡ ones O (k S) ⊗ inverse (ones O (n S)) ⊗ coefficient O p (e % k S)
       unfolding weighted
       public_coefficients root column p takes takes_p e h =
-          sym (getD_table (n S) sums 𝟘 e h)
+          sym (get_or_table (n S) sums 𝟘 e h)
           ∙ takes_spread L (log_stride S fits) (log_k S) (ω O S) (subst (λ t. Root O t (ω O S)) whole root) values (table (n S) sums) p zeros
           (subst (λ t. Takes O (2 ^ t) (ω O S) values (table (n S) sums)) whole all)
           (subst (λ s. Takes O (k S) (power O (ω O S) s) (λ t. values (t * s)) p) (stride_is S fits) multiples)

@@ -8,7 +8,7 @@ use Rattle.transform.proofs.Sums.{sum_ext}
 use Rattle.transform.proofs.Powers.{power_zero, power_suc, power_add, power_mul}
 use Rattle.transform.proofs.Roots.{root_full, root_power, ones_one, ones_double}
 use Rattle.transform.proofs.Series.{eval, interp}
-use Rattle.transform.proofs.Tables.{length_table, getD_table, is_table}
+use Rattle.transform.proofs.Tables.{length_table, get_or_table, is_table}
 use Rattle.transform.proofs.Polynomials.{value_is_eval, size_inverse, interp_takes}
 use Rattle.sheet.specs.Shape.{Shape, log_k, k, log_of_n, n, stride}
 use Rattle.square.specs.Program.{half, u_row}
@@ -66,12 +66,12 @@ module _ {F : Type 0} {O : Operations F} (L : Laws O) where
       unfolding eval
       value_of_sums e =
           value_is_eval L (k S) (table (k S) y) (step ^^ e) (length_table (k S) y)
-          ∙ sum_ext L (k S) _ _ (λ r h. ap (λ t. t ⊗ (step ^^ e) ^^ r) (getD_table (k S) y 𝟘 r h))
+          ∙ sum_ext L (k S) _ _ (λ r h. ap (λ t. t ⊗ (step ^^ e) ^^ r) (get_or_table (k S) y 𝟘 r h))
 
       coefficient_of_sums : (e : ℕ) → e < k S → coefficient O p e ≡ inverse (ones O (k S)) ⊗ eval O (k S) y (step ^^ e)
       unfolding eval interp
       coefficient_of_sums e h =
-          getD_table (k S) (interp O (k S) step (inverse (ones O (k S))) y) 𝟘 e h
+          get_or_table (k S) (interp O (k S) step (inverse (ones O (k S))) y) 𝟘 e h
           ∙ ap (λ t. inverse (ones O (k S)) ⊗ t)
           (sum_ext L (k S) _ _ (λ r _. ap (λ t. y r ⊗ t) (ap (λ t. step ^^ t) (mul_comm r e) ∙ power_mul L step e r)))
 

@@ -18,7 +18,7 @@ use Rattle.transform.proofs.Interpolation.{interp_ext, interp_eval, eval_interp}
 use Rattle.transform.proofs.Products.{conv_ext, conv_below}
 use Rattle.transform.proofs.Quotients.{multiple_upper, multiple_values, values_multiple}
 use Rattle.transform.proofs.Spread.{interp_spread}
-use Rattle.transform.proofs.Tables.{length_table, getD_table, is_table, table_ext}
+use Rattle.transform.proofs.Tables.{length_table, get_or_table, is_table, table_ext}
 
 module _ {F : Type 0} {O : Operations F} (L : Laws O) where
   open O use {zero as 𝟘, one as 𝟙, add as ◌⊕◌, mul as ◌⊗◌, neg, inverse, adicity}
@@ -92,7 +92,7 @@ module _ {F : Type 0} {O : Operations F} (L : Laws O) where
           size = length_table (2 ^ e) _;
           values = λ r h.
               value_is_eval (2 ^ e) (table (2 ^ e) (interp O (2 ^ e) w s y)) (ω ^^ r) (length_table (2 ^ e) _)
-              ∙ eval_ext L (2 ^ e) _ _ (ω ^^ r) (getD_table (2 ^ e) (interp O (2 ^ e) w s y) 𝟘)
+              ∙ eval_ext L (2 ^ e) _ _ (ω ^^ r) (get_or_table (2 ^ e) (interp O (2 ^ e) w s y) 𝟘)
               ∙ eval_interp L e ω w s root inv size y r h;
         }
 
@@ -146,7 +146,7 @@ module _ {F : Type 0} {O : Operations F} (L : Laws O) where
   upper_is : (n : ℕ) (u : List F) → length u ≡ n → (j : ℕ) → coefficient O (upper n u) j ≡ conv O (coefficient O u) (coefficient O u) (n + j)
   upper_is n u size j =
       elim (dec_lt j (n - 1)) [
-        | yes l ↦ getD_table (n - 1) _ 𝟘 j l ∙ product_is_conv u u (n + j)
+        | yes l ↦ get_or_table (n - 1) _ 𝟘 j l ∙ product_is_conv u u (n + j)
         | no l ↦ coefficient_past (n - 1) (upper n u) (omega (arith, length_table (n - 1) (λ j. product_at O u u (n + j)))) j (omega arith)
             ∙ sym (conv_below L n n _ _ (coefficient_past n u (omega arith)) (coefficient_past n u (omega arith)) (n + j) (omega arith))
       ]

@@ -3,7 +3,7 @@ use Rattle.std.proofs.Common.{◌≡◌, ℕ, suc, ◌<◌, List, [], ◌∷◌,
 use Rattle.modular.specs.Field97.{only97, element97}
 use Rattle.modular.specs.declared.f97.F97.{F97}
 use Rattle.transform.specs.Polynomial.{table}
-use Rattle.transform.proofs.Tables.{getD_table}
+use Rattle.transform.proofs.Tables.{get_or_table}
 
 -- the numbers of elements
 abbrev pub values : List F97 → List ℕ
@@ -18,6 +18,6 @@ by_values (x ∷ xs) (y ∷ ys) e = ap₂ ◌∷◌ (only97 x y (ap (λ (t : Lis
 -- functions whose tables have the same numbers agree below the tables' end
 pub each : (n : ℕ) (f g : ℕ → F97) → values (table n f) ≡ values (table n g) → (r : ℕ) → r < n → f r ≡ g r
 each n f g e r h =
-    sym (getD_table n f (element97 0) r h)
+    sym (get_or_table n f (element97 0) r h)
     ∙ ap (λ (t : List F97). get_or t r (element97 0)) (by_values (table n f) (table n g) e)
-    ∙ getD_table n g (element97 0) r h
+    ∙ get_or_table n g (element97 0) r h
