@@ -1,4 +1,4 @@
-// The reasons of a refusal, by what they mean. `number_of_lem` in specs/ gives each its number.
+// The reasons of a refusal, by what they mean. `number_of` in specs/ gives each its number.
 #[derive(Clone, Copy)]
 pub enum Refusal {
     // 1: a size is outside its limits

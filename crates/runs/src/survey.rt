@@ -57,7 +57,7 @@ pub fn survey<F: Field>(
     spare_entries: &mut [Entry<F>],
     spare_values: &mut [F],
 ) -> Result<Surveyed, Refused>
-    ensures { Outcome F.ops (shape wires publics rows) calls.now (record { answers = answers.entry.now; entries = entries.old; values = values.old; extended = extended.old; quotient = divided.old; public = published.old }) (length work.old) (length scratch.old) result (record { answers = answers.exit.now; entries = entries.new; values = values.new; extended = extended.new; quotient = divided.new; public = published.new }) }
+    ensures { Outcome F.ops (shape wires publics rows) calls.now (record { answers = answers.old; entries = entries.old; values = values.old; extended = extended.old; quotient = divided.old; public = published.old }) (length work.old) (length scratch.old) result (record { answers = answers.new; entries = entries.new; values = values.new; extended = extended.new; quotient = divided.new; public = published.new }) }
 {
     let planned = plan::<F>(wires, publics, rows)?;
     if !buffers_fit(
