@@ -52,10 +52,7 @@ fn reciprocal<F: Field>(x: F) -> F
     requires { ¬ (x ≡ F.ops.zero) }
     ensures { F.ops.mul x result ≡ F.ops.one }
 {
-    match x.inverse() {
-        Some(y) => y,
-        None => unreachable(),
-    }
+    x.inverse().unwrap()
 }
 
 // Fills `out` with the scaled values at 1, step, step², .. of the polynomial that has the given values as its coefficients:

@@ -31,10 +31,8 @@ impl<'a, F: Field> Polynomial<'a, F> {
     pub fn coefficient(&self, i: usize) -> F
         ensures { result ≡ coefficient F.ops self.now.coefficients.now i }
     {
-        match self.coefficients.get(i) {
-            Some(c) => *c,
-            None => F::zero(),
-        }
+        let all = self.coefficients;
+        all.get(i).copied().unwrap_or(F::zero())
     }
 
     // The value at a point.
@@ -70,12 +68,8 @@ impl<'a, F: Field> Polynomial<'a, F> {
     pub fn equals(&self, other: &Polynomial<F>) -> bool
         ensures { (result ≡ true) ↔ Equal F.ops self.now.coefficients.now other.now.coefficients.now }
     {
-        for i in 0..self.coefficients.len().max(other.coefficients.len()) {
-            if !self.coefficient(i).same(other.coefficient(i)) {
-                return false;
-            }
-        }
-        true
+        let places = self.coefficients.len().max(other.coefficients.len());
+        (0..places).all(|i| self.coefficient(i).same(other.coefficient(i)))
     }
 }
 

@@ -5,15 +5,11 @@ ghost use Rattle.transform.specs.Theory.{Theory};
 use field::field::Field;
 
 // The theory of polynomials over a subgroup, for every field.
-pub fn theory_stands<F: Field>() -> u8
+pub fn theory_stands<F: Field>()
     ensures { Theory F.ops }
-{
-    0
-}
+{}
 
 // Powers of two and their logarithms, by which lengths are judged.
-pub fn logarithms_stand() -> u8
+pub fn logarithms_stand()
     ensures { Logarithms }
-{
-    0
-}
+{}
