@@ -8,28 +8,20 @@ mod tests {
     use transform::interpolate::interpolate;
     use transform::polynomial::Polynomial;
 
-    // The number of the refusal, or 0 where the call was granted.
-    fn refusal(r: Result<(), Refused>) -> u32 {
-        match r {
-            Ok(()) => 0,
-            Err(e) => e.reason.number(),
-        }
+    // The number of the refusal; None where the call was granted.
+    fn refusal(answer: Result<(), Refused>) -> Option<u32> {
+        answer.err().map(|e| e.reason.number())
     }
 
     fn all_seven(elements: &[F97]) -> bool {
-        for x in elements {
-            if x.value() != 7 {
-                return false;
-            }
-        }
-        true
+        elements.iter().all(|x| x.value() == 7)
     }
 
     #[test]
     fn interpolates_four_values(rt: HostRuntime) {
         let values = [F97::new(1), F97::new(0), F97::new(0), F97::new(95)];
         let mut out = [F97::new(0); 4];
-        assert_eq!(rt; refusal(interpolate(&values, &mut out)), 0);
+        assert_eq!(rt; refusal(interpolate(&values, &mut out)), None);
         let u = Polynomial::new(&out);
         // the powers of 22, which is a square root of -1
         assert_eq!(rt; u.value_at(F97::new(1)).value(), 1);
@@ -42,8 +34,8 @@ mod tests {
     fn refuses_wrong_lengths(rt: HostRuntime) {
         let values = [F97::new(1); 4];
         let mut out = [F97::new(7); 3];
-        assert_eq!(rt; refusal(interpolate(&values, &mut out)), 5);
-        assert_eq!(rt; refusal(interpolate(&values[0..3], &mut out)), 5);
+        assert_eq!(rt; refusal(interpolate(&values, &mut out)), Some(5));
+        assert_eq!(rt; refusal(interpolate(&values[0..3], &mut out)), Some(5));
         assert!(rt; all_seven(&out));
     }
 
@@ -52,7 +44,7 @@ mod tests {
         // 97 - 1 is a multiple of 32 and not of 64
         let values = [F97::new(1); 64];
         let mut out = [F97::new(7); 64];
-        assert_eq!(rt; refusal(interpolate(&values, &mut out)), 2);
+        assert_eq!(rt; refusal(interpolate(&values, &mut out)), Some(2));
         assert!(rt; all_seven(&out));
     }
 
@@ -65,13 +57,16 @@ mod tests {
         let mut out = [F97::new(7); 3];
         assert_eq!(rt;
             refusal(Polynomial::new(&u).product(&Polynomial::new(&v), &mut out)),
-            0
+            None
         );
         assert!(rt; Polynomial::new(&out).equals(&Polynomial::new(&uv)));
         // from X² on, (1 + 2 X)² has one coefficient
-        assert_eq!(rt; refusal(Polynomial::new(&u).square_upper(&mut out)), 5);
+        assert_eq!(rt;
+            refusal(Polynomial::new(&u).square_upper(&mut out)),
+            Some(5)
+        );
         let mut upper = [F97::new(7)];
-        assert_eq!(rt; refusal(Polynomial::new(&u).square_upper(&mut upper)), 0);
+        assert_eq!(rt; refusal(Polynomial::new(&u).square_upper(&mut upper)), None);
         assert_eq!(rt; upper[0].value(), 4);
     }
 
