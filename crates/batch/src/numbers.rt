@@ -2,6 +2,7 @@
 use field::field::Field;
 use field::file_field::FileField;
 use frames::number::word;
+use sheet::counts::Counts;
 use std::io;
 
 // What a case that is not laid out as it should be ends the program with.
@@ -36,24 +37,16 @@ pub(crate) fn element<F: FileField>(bytes: &[u8]) -> Option<(F, &[u8])> {
     Some((sum, rest))
 }
 
-// The numbers m, l and N of a sheet.
-#[derive(Clone, Copy)]
-pub(crate) struct Shape {
-    pub(crate) wires: u32,
-    pub(crate) publics: u32,
-    pub(crate) rows: u32,
-}
-
-pub(crate) fn read_shape(bytes: &[u8]) -> Option<(Shape, &[u8])> {
+pub(crate) fn read_counts(bytes: &[u8]) -> Option<(Counts, &[u8])> {
     let (wires, rest) = word(bytes)?;
     let (publics, rest) = word(rest)?;
     let (rows, rest) = word(rest)?;
-    let shape = Shape {
+    let counts = Counts {
         wires,
         publics,
         rows,
     };
-    Some((shape, rest))
+    Some((counts, rest))
 }
 
 // The kind of the first case, its payload, and what follows the case.

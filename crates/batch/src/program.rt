@@ -1,11 +1,12 @@
 // Kind 5: the square program of a sheet, written as a constraint file and read back.
 use crate::buffers::filled;
 use crate::circuit::print_opened;
-use crate::numbers::{Shape, element, length, malformed, read_shape};
+use crate::numbers::{element, length, malformed, read_counts};
 use crate::print::{print_bytes, print_refused};
 use field::field::Field;
 use field::file_field::FileField;
 use frames::number::word;
+use sheet::counts::Counts;
 use sheet::entry::Entry;
 use sheet::head::Head;
 use sheet::head::calls::{TABLE_SIZE, enter, plan};
@@ -73,14 +74,14 @@ fn print_file<F: FileField>(
 // The table that is lent has so many places; only a table of the stated length is entered into.
 fn print_program<F: FileField>(
     rt: &HostRuntime,
-    shape: Shape,
+    counts: Counts,
     places: usize,
     room: usize,
     entered: &[Entry<F>],
     laid: &[Entry<F>],
 ) -> io::Result<()> {
     let blank = Entry::<F>::blank();
-    match plan::<F>(shape.wires, shape.publics, shape.rows) {
+    match plan::<F>(counts) {
         Ok(made) => {
             let mut head = made;
             let mut table = filled(rt.alloc(), blank, TABLE_SIZE)?;
@@ -97,7 +98,7 @@ fn print_program<F: FileField>(
 // The sheet's numbers, the places of the table, the room for the file, and two lists of entries, how many first: those that are entered,
 // and those that are laid over the table's first places.
 pub(crate) fn answer<F: FileField>(rt: &HostRuntime, payload: &[u8]) -> io::Result<()> {
-    let Some((shape, rest)) = read_shape(payload) else {
+    let Some((counts, rest)) = read_counts(payload) else {
         return Err(malformed());
     };
     let Some((places, rest)) = length(rest) else {
@@ -124,6 +125,6 @@ pub(crate) fn answer<F: FileField>(rt: &HostRuntime, payload: &[u8]) -> io::Resu
     if !rest.is_empty() {
         return Err(malformed());
     }
-    print_program(rt, shape, places, room, &entered, &laid)?;
+    print_program(rt, counts, places, room, &entered, &laid)?;
     println!(rt; "")
 }

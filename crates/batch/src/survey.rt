@@ -1,7 +1,7 @@
 // Kind 3: a list of calls over a sheet, and what is read from it in the end.
 use crate::buffers::filled;
 use crate::calls::read_calls;
-use crate::numbers::{Shape, length, malformed, read_shape};
+use crate::numbers::{length, malformed, read_counts};
 use crate::print::{print_answer, print_elements, print_refused};
 use field::field::Field;
 use field::file_field::FileField;
@@ -10,6 +10,7 @@ use refusal::refused::Refused;
 use runs::survey::survey;
 use runs::surveyed::Surveyed;
 use sheet::call::Call;
+use sheet::counts::Counts;
 use sheet::entry::Entry;
 use sheet::head::Head;
 use sheet::head::calls::plan;
@@ -34,8 +35,8 @@ impl Misfits {
 }
 
 // The numbers that a survey states lengths by: m, M and n. Where there is no such sheet any do.
-fn lengths<F: FileField>(shape: Shape) -> (usize, usize, usize) {
-    match plan::<F>(shape.wires, shape.publics, shape.rows) {
+fn lengths<F: FileField>(counts: Counts) -> (usize, usize, usize) {
+    match plan::<F>(counts) {
         Ok(head) => (head.wires(), head.columns(), head.n()),
         Err(_) => (1, 1, 1),
     }
@@ -87,7 +88,7 @@ fn print_surveyed<F: FileField>(
 
 fn print_survey<F: FileField>(
     rt: &HostRuntime,
-    shape: Shape,
+    counts: Counts,
     misfits: Misfits,
     calls: &[Call<F>],
 ) -> io::Result<()> {
@@ -95,7 +96,7 @@ fn print_survey<F: FileField>(
     let granted: Result<(), Refused> = Ok(());
     let zero = F::zero();
     let blank = Entry::<F>::blank();
-    let (m, columns, n) = lengths::<F>(shape);
+    let (m, columns, n) = lengths::<F>(counts);
     let work_places = columns.wrapping_add(n.wrapping_mul(4));
     let mut answers = filled(heap, granted, misfits.lent(1, calls.len()))?;
     let mut entries = filled(heap, blank, misfits.lent(2, 2048))?;
@@ -108,9 +109,7 @@ fn print_survey<F: FileField>(
     let mut spare_entries = filled(heap, blank, SPARE)?;
     let mut spare_values = filled(heap, zero, SPARE)?;
     match survey(
-        shape.wires,
-        shape.publics,
-        shape.rows,
+        counts,
         calls,
         &mut answers,
         &mut entries,
@@ -130,7 +129,7 @@ fn print_survey<F: FileField>(
 
 // The sheet's numbers, the misfits, and the calls, how many first.
 pub(crate) fn answer<F: FileField>(rt: &HostRuntime, payload: &[u8]) -> io::Result<()> {
-    let Some((shape, rest)) = read_shape(payload) else {
+    let Some((counts, rest)) = read_counts(payload) else {
         return Err(malformed());
     };
     let Some((misfits, rest)) = word(rest) else {
@@ -144,6 +143,6 @@ pub(crate) fn answer<F: FileField>(rt: &HostRuntime, payload: &[u8]) -> io::Resu
     if !read_calls(rest, &mut calls) {
         return Err(malformed());
     }
-    print_survey(rt, shape, Misfits(misfits), &calls)?;
+    print_survey(rt, counts, Misfits(misfits), &calls)?;
     println!(rt; "")
 }

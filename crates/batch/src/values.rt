@@ -1,6 +1,6 @@
 // Kind 4: values of a square program's wires, written as an assignment file.
 use crate::buffers::filled;
-use crate::numbers::{element, length, malformed, read_shape};
+use crate::numbers::{element, length, malformed, read_counts};
 use crate::print::{print_bytes, print_refused};
 use field::field::Field;
 use field::file_field::FileField;
@@ -41,7 +41,7 @@ fn print_file<F: FileField>(
 
 // The sheet's numbers, the room for the file, and the values, how many first.
 pub(crate) fn answer<F: FileField>(rt: &HostRuntime, payload: &[u8]) -> io::Result<()> {
-    let Some((shape, rest)) = read_shape(payload) else {
+    let Some((counts, rest)) = read_counts(payload) else {
         return Err(malformed());
     };
     let Some((room, rest)) = length(rest) else {
@@ -54,7 +54,7 @@ pub(crate) fn answer<F: FileField>(rt: &HostRuntime, payload: &[u8]) -> io::Resu
     if !read_elements(rest, &mut values) {
         return Err(malformed());
     }
-    match plan::<F>(shape.wires, shape.publics, shape.rows) {
+    match plan::<F>(counts) {
         Ok(head) => print_file(rt, &head, &values, room)?,
         Err(e) => print_refused(rt, e)?,
     }

@@ -1,6 +1,7 @@
 // A sheet from an opened constraint file.
 ghost use Rattle.std.specs.Prelude.{◌≡◌, ◌+◌, None};
 ghost use Rattle.refusal.specs.Due.{Decided};
+ghost use Rattle.sheet.specs.Outcomes.{counted};
 ghost use Rattle.loading.specs.Loaded.{file_shape, numbers_due, Loaded, LoadsCircuit};
 
 use crate::rows::{count_items, enter_rows};
@@ -10,18 +11,19 @@ use field::field::Field;
 use field::file_field::FileField;
 use refusal::reason::Refusal;
 use refusal::refused::Refused;
+use sheet::counts::Counts;
 use sheet::entry::Entry;
 use sheet::head::Head;
 use sheet::head::calls::{TABLE_SIZE, make, plan};
 
-// All checks but the count of items: the prime, the sheet's numbers and the lengths of the tables. The answer is the public wires.
+// All checks but the count of items: the prime, the sheet's numbers and the lengths of the tables. The answer is those numbers.
 fn check_numbers<F: FileField>(
     header: Header,
     prime_at: usize,
     entries: usize,
     values: usize,
-) -> Result<u32, Refused>
-    ensures { Decided (numbers_due F.ops F.prime header.prime prime_at (file_shape header) entries values None) result (λ l. l ≡ 1 + header.outputs + header.inputs) (Unit {0}) }
+) -> Result<Counts, Refused>
+    ensures { Decided (numbers_due F.ops F.prime header.prime prime_at (file_shape header) entries values None) result (λ n. counted n ≡ file_shape header) (Unit {0}) }
 {
     if header.prime != F::prime() {
         return Err(Refusal::OtherPrime.at(prime_at));
@@ -29,11 +31,16 @@ fn check_numbers<F: FileField>(
     let Ok(publics) = u32::try_from(header.public()) else {
         return Err(Refusal::OutOfLimits.at(0));
     };
-    let _ = plan::<F>(header.wires, publics, header.rows)?;
+    let counts = Counts {
+        wires: header.wires,
+        publics,
+        rows: header.rows,
+    };
+    let _ = plan::<F>(counts)?;
     if values != header.wires as usize || entries != TABLE_SIZE {
         return Err(Refusal::WrongLength.at(0));
     }
-    Ok(publics)
+    Ok(counts)
 }
 
 // All checks, then make, then the rows.
@@ -46,12 +53,12 @@ fn loaded<F: FileField>(
 {
     let header = reader.header();
     let prime_at = reader.prime_at();
-    let publics = check_numbers::<F>(header, prime_at, entries.len(), values.len())?;
+    let counts = check_numbers::<F>(header, prime_at, entries.len(), values.len())?;
     let mut reader = reader.restart();
     if count_items(&mut reader) > TABLE_SIZE {
         return Err(Refusal::TableFull.at(0));
     }
-    let mut head = make(header.wires, publics, header.rows, values)?;
+    let mut head = make(counts, values)?;
     enter_rows(&mut head, entries, reader.restart());
     Ok(head)
 }

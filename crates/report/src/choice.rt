@@ -2,7 +2,7 @@
 ghost use Rattle.std.specs.Prelude.{◌≡◌, ◌≤◌, not, ◌&&◌, length, nat_le};
 ghost use Rattle.sheet.specs.Shape.{log_of_n};
 ghost use Rattle.sheet.specs.Rules.{in_limits};
-ghost use Rattle.sheet.specs.Outcomes.{shape};
+ghost use Rattle.sheet.specs.Outcomes.{counted};
 ghost use Rattle.loading.specs.Loaded.{file_shape};
 ghost use Rattle.report.specs.Means.{doublings, text_room, TellsBy};
 
@@ -14,13 +14,14 @@ use constraints::reader::RowReader;
 use field::field::Field;
 use modular::f97::F97;
 use quadratic::quadratic::Quadratic;
+use sheet::counts::Counts;
 use sheet::head::calls::plan;
 
-// Whether a shape is within the limits, but the field has no subgroup for its rows.
-fn lacks_root<F: Field>(wires: u32, publics: u32, rows: u32) -> bool
-    ensures { let S = shape wires publics rows in result ≡ (in_limits S && not (nat_le (log_of_n S) F.ops.adicity)) }
+// Whether a sheet's numbers are within the limits, but the field has no subgroup for its rows.
+fn lacks_root<F: Field>(counts: Counts) -> bool
+    ensures { let S = counted counts in result ≡ (in_limits S && not (nat_le (log_of_n S) F.ops.adicity)) }
 {
-    match plan::<F>(wires, publics, rows) {
+    match plan::<F>(counts) {
         Ok(_) => false,
         Err(e) => e.reason.number() == 2,
     }
@@ -34,9 +35,14 @@ fn doublings_of(header: Header) -> u32
     let Ok(publics) = u32::try_from(header.public()) else {
         return 0;
     };
-    if !lacks_root::<F97>(header.wires, publics, header.rows) {
+    let counts = Counts {
+        wires: header.wires,
+        publics,
+        rows: header.rows,
+    };
+    if !lacks_root::<F97>(counts) {
         0
-    } else if !lacks_root::<Quadratic<F97>>(header.wires, publics, header.rows) {
+    } else if !lacks_root::<Quadratic<F97>>(counts) {
         1
     } else {
         2

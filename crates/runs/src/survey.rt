@@ -1,6 +1,6 @@
 // A sheet from its first call to what is read from it.
 ghost use Rattle.std.specs.Prelude.{◌≡◌, length};
-ghost use Rattle.sheet.specs.Outcomes.{shape, shape_of};
+ghost use Rattle.sheet.specs.Outcomes.{counted, shape_of};
 ghost use Rattle.runs.specs.Survey.{Lengths, Buffers, buffers_fit, Outcome};
 
 use crate::list::replay;
@@ -9,6 +9,7 @@ use field::field::Field;
 use refusal::reason::Refusal;
 use refusal::refused::Refused;
 use sheet::call::Call;
+use sheet::counts::Counts;
 use sheet::entry::Entry;
 use sheet::head::Head;
 use sheet::head::calls::{TABLE_SIZE, make, plan};
@@ -42,9 +43,7 @@ fn buffers_fit(
 // A listed call of another than the stated length is handed a part of a spare, which may be of any length; work and scratch are working
 // buffers, of M + 4n and M + n places.
 pub fn survey<F: Field>(
-    wires: u32,
-    publics: u32,
-    rows: u32,
+    counts: Counts,
     calls: &[Call<F>],
     answers: &mut [Result<(), Refused>],
     entries: &mut [Entry<F>],
@@ -57,9 +56,9 @@ pub fn survey<F: Field>(
     spare_entries: &mut [Entry<F>],
     spare_values: &mut [F],
 ) -> Result<Surveyed, Refused>
-    ensures { Outcome F.ops (shape wires publics rows) calls.now (record { answers = answers.old; entries = entries.old; values = values.old; extended = extended.old; quotient = divided.old; public = published.old }) (length work.old) (length scratch.old) result (record { answers = answers.new; entries = entries.new; values = values.new; extended = extended.new; quotient = divided.new; public = published.new }) }
+    ensures { Outcome F.ops (counted counts) calls.now (record { answers = answers.old; entries = entries.old; values = values.old; extended = extended.old; quotient = divided.old; public = published.old }) (length work.old) (length scratch.old) result (record { answers = answers.new; entries = entries.new; values = values.new; extended = extended.new; quotient = divided.new; public = published.new }) }
 {
-    let planned = plan::<F>(wires, publics, rows)?;
+    let planned = plan::<F>(counts)?;
     if !buffers_fit(
         &planned,
         calls.len(),
@@ -73,7 +72,7 @@ pub fn survey<F: Field>(
     ) {
         return Err(Refusal::WrongLength.at(0));
     }
-    let mut head = make(wires, publics, rows, values)?;
+    let mut head = make(counts, values)?;
     replay(
         &mut head,
         entries,

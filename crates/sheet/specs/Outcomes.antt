@@ -5,6 +5,7 @@ use Rattle.refusal.specs.declared.refused.Refused.{Refused}
 use Rattle.field.specs.Operations.{Operations}
 use Rattle.sheet.specs.Shape.{Shape}
 use Rattle.sheet.specs.Rules.{planned, make_due, enter_due, assign_due}
+use Rattle.sheet.specs.declared.counts.Counts.{Counts}
 use Rattle.sheet.specs.declared.head.Head.{Head}
 use Rattle.sheet.specs.declared.entry.Entry.{Entry}
 
@@ -14,6 +15,9 @@ Answer = Result (Unit {0}) Refused
 
 abbrev pub shape : (m l N : ℕ) → Shape
 shape m l N = record { m = m; l = l; N = N }
+
+abbrev pub counted : Counts → Shape
+counted c = shape c.wires c.publics c.rows
 
 abbrev pub shape_of : Head → Shape
 shape_of h = shape h.wires h.publics h.rows

@@ -2,5 +2,6 @@
 #![tactic(auto)]
 
 pub mod call;
+pub mod counts;
 pub mod entry;
 pub mod head;

@@ -7,6 +7,7 @@ use quadratic::quadratic::Quadratic;
 use refusal::refused::Refused;
 use runs::survey::survey;
 use sheet::call::Call;
+use sheet::counts::Counts;
 use sheet::entry::Entry;
 use std::io;
 use table_field::f12289::F12289;
@@ -77,10 +78,13 @@ fn doubled(rt: &impl Print) -> io::Result<()> {
     let mut spare_entries = [Entry::<Quadratic<F97>>::blank(); 1];
     let mut spare_values = [zero; 1];
     println!(rt; "survey over the field of 97 elements doubled")?;
+    let counts = Counts {
+        wires: 2,
+        publics: 2,
+        rows: 1,
+    };
     match survey(
-        2,
-        2,
-        1,
+        counts,
         &calls,
         &mut answers,
         &mut entries,
@@ -115,10 +119,13 @@ fn by_tables(rt: &impl Print) -> io::Result<()> {
     let mut spare_entries = [Entry::<F12289>::blank(); 1];
     let mut spare_values = [zero; 1];
     println!(rt; "survey over the field of 12289 elements")?;
+    let counts = Counts {
+        wires: 2,
+        publics: 1,
+        rows: 1,
+    };
     match survey(
-        2,
-        1,
-        1,
+        counts,
         &calls,
         &mut answers,
         &mut entries,

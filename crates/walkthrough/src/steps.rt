@@ -2,6 +2,7 @@
 use crate::print::{show, tell};
 use field::field::Field;
 use modular::f97::F97;
+use sheet::counts::Counts;
 use sheet::entry::Entry;
 use sheet::head::Head;
 use sheet::head::calls::{assign, enter, make};
@@ -47,7 +48,12 @@ pub(crate) fn step_by_step(rt: &impl Print) -> io::Result<()> {
     let one = F97::one();
     let mut entries = [Entry::<F97>::blank(); 2048];
     let mut values = [F97::zero(); 2];
-    let mut head = match make(2, 1, 1, &mut values) {
+    let counts = Counts {
+        wires: 2,
+        publics: 1,
+        rows: 1,
+    };
+    let mut head = match make(counts, &mut values) {
         Ok(head) => head,
         Err(e) => return tell(rt, "make", Err(e)),
     };

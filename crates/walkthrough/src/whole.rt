@@ -5,6 +5,7 @@ use modular::f97::F97;
 use refusal::refused::Refused;
 use runs::survey::survey;
 use sheet::call::Call;
+use sheet::counts::Counts;
 use sheet::entry::Entry;
 use std::io;
 use transform::interpolate::interpolate;
@@ -104,10 +105,13 @@ fn survey_with(rt: &impl Print, x: F97) -> io::Result<()> {
     let mut spare_values = [zero; 1];
     let number = x.value();
     println!(rt; "survey six calls as one list, with x = {number}")?;
+    let counts = Counts {
+        wires: 2,
+        publics: 1,
+        rows: 1,
+    };
     match survey(
-        2,
-        1,
-        1,
+        counts,
         &calls,
         &mut answers,
         &mut entries,

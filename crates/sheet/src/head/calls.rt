@@ -2,8 +2,9 @@
 ghost use Rattle.std.specs.Prelude.{◌≡◌, ◌*◌, ◌^◌, ◌<◌, ◌≤◌, T, length};
 ghost use Rattle.sheet.specs.Shape.{log_up};
 ghost use Rattle.sheet.specs.Rules.{in_limits};
-ghost use Rattle.sheet.specs.Outcomes.{Planned, Made, Entered, Assigned, Numbers, shape, first_values};
+ghost use Rattle.sheet.specs.Outcomes.{Planned, Made, Entered, Assigned, Numbers, counted, first_values};
 
+use crate::counts::Counts;
 use crate::entry::Entry;
 use crate::head::Head;
 use field::field::Field;
@@ -39,13 +40,13 @@ fn power_of_two(e: u32) -> usize
     1 << e
 }
 
-fn within_limits(wires: u32, publics: u32, rows: u32) -> bool
-    ensures is { result ≡ in_limits (shape wires publics rows) }
-    ensures tells { T result → (1 ≤ wires) × (wires ≤ 2048) × (1 ≤ publics) × (publics ≤ 256) × (publics ≤ wires) × (rows ≤ 512) }
+fn within_limits(c: Counts) -> bool
+    ensures is { result ≡ in_limits (counted c) }
+    ensures tells { T result → (1 ≤ c.wires) × (c.wires ≤ 2048) × (1 ≤ c.publics) × (c.publics ≤ 256) × (c.publics ≤ c.wires) × (c.rows ≤ 512) }
 {
-    (1 <= wires && wires <= 2048)
-        && (1 <= publics && publics <= 256)
-        && (publics <= wires && rows <= 512)
+    (1 <= c.wires && c.wires <= 2048)
+        && (1 <= c.publics && c.publics <= 256)
+        && (c.publics <= c.wires && c.rows <= 512)
 }
 
 // One on wire 0, zero on every other.
@@ -60,12 +61,15 @@ fn reset<F: Field>(values: &mut [F])
 }
 
 // The head of a shape within the limits, with no entry used.
-fn head_of(wires: usize, publics: usize, rows: usize) -> Head
-    requires wires { wires ≤ 2048 }
-    requires publics { (1 ≤ publics) × (publics ≤ 256) × (publics ≤ wires) }
-    requires rows { rows ≤ 512 }
-    ensures { Numbers result (shape wires publics rows) 0 }
+fn head_of(counts: Counts) -> Head
+    requires wires { counts.wires ≤ 2048 }
+    requires publics { (1 ≤ counts.publics) × (counts.publics ≤ 256) × (counts.publics ≤ counts.wires) }
+    requires rows { counts.rows ≤ 512 }
+    ensures { Numbers result (counted counts) 0 }
 {
+    let wires = counts.wires as usize;
+    let publics = counts.publics as usize;
+    let rows = counts.rows as usize;
     let k = power_of_two(log_up(2 * publics));
     let log_n = log_up(k + 2 * rows);
     Head {
@@ -80,28 +84,23 @@ fn head_of(wires: usize, publics: usize, rows: usize) -> Head
     }
 }
 
-// The head of a sheet of m wires, l of them public, and N rows, before there are values.
-pub fn plan<F: Field>(wires: u32, publics: u32, rows: u32) -> Result<Head, Refused>
-    ensures { Planned F.ops (shape wires publics rows) result }
+// The head of a sheet of these numbers, before there are values.
+pub fn plan<F: Field>(counts: Counts) -> Result<Head, Refused>
+    ensures { Planned F.ops (counted counts) result }
 {
-    if !within_limits(wires, publics, rows) {
+    if !within_limits(counts) {
         return Err(Refusal::OutOfLimits.at(0));
     }
-    let head = head_of(wires as usize, publics as usize, rows as usize);
+    let head = head_of(counts);
     let _ = subgroup_root::<F>(head.log_n)?;
     Ok(head)
 }
 
 // The same with its value table: one on wire 0, zero on every other.
-pub fn make<F: Field>(
-    wires: u32,
-    publics: u32,
-    rows: u32,
-    values: &mut [F],
-) -> Result<Head, Refused>
-    ensures { Made F.ops (shape wires publics rows) values.old result values.new }
+pub fn make<F: Field>(counts: Counts, values: &mut [F]) -> Result<Head, Refused>
+    ensures { Made F.ops (counted counts) values.old result values.new }
 {
-    let head = plan::<F>(wires, publics, rows)?;
+    let head = plan::<F>(counts)?;
     if values.len() != head.wires {
         return Err(Refusal::WrongLength.at(0));
     }
