@@ -35,7 +35,7 @@ pub trait Field: Copy {
 
     // The chosen root of one of the order 2^e, where there is one.
     fn root(e: u32) -> Option<Self>
-        ensures { MatchOption result (ops.adicity < e) (λ w. (e ≤ ops.adicity) × (w ≡ root_of_order (ops) e)) };
+        ensures { MatchOption result (ops.adicity < e) (λ w. (e ≤ ops.adicity) × (w ≡ root_of_order ops e)) };
 
     // what every implementation proves of them
     ghost laws: { Laws ops };

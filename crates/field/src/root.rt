@@ -11,8 +11,5 @@ use refusal::refused::Refused;
 pub fn subgroup_root<F: Field>(e: u32) -> Result<F, Refused>
     ensures { Decided (unless (nat_le e F.ops.adicity) 2 None) result (λ w. w ≡ root_of_order F.ops e) (Unit {0}) }
 {
-    match F::root(e) {
-        Some(w) => Ok(w),
-        None => Err(Refusal::NoRoot.at(0)),
-    }
+    F::root(e).ok_or(Refusal::NoRoot.at(0))
 }

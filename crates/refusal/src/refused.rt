@@ -1,11 +1,12 @@
 // A refusal as a call answers it.
-ghost use Rattle.std.specs.Prelude.{◌≡◌};
+ghost use Rattle.std.specs.Prelude.{◌≡◌, ◌++◌, Some, codes, decimal};
 ghost use Rattle.refusal.specs.Numbers.{number_of};
 
 use crate::reason::Refusal;
+use std::fmt;
 
 // The reason, and the place that it speaks of: a row, or a byte of a file; 0 where there is none.
-#[derive(Clone, Copy)]
+#[derive(Clone, Copy, PartialEq, Eq, Debug)]
 pub struct Refused {
     pub reason: Refusal,
     pub at: usize,
@@ -26,20 +27,17 @@ impl Refusal {
     pub fn number(self) -> u32
         ensures { result ≡ number_of self }
     {
-        match self {
-            Refusal::OutOfLimits => 1,
-            Refusal::NoRoot => 2,
-            Refusal::OutOfRange => 3,
-            Refusal::TableFull => 4,
-            Refusal::WrongLength => 5,
-            Refusal::Inconsistent => 6,
-            Refusal::RowFails => 7,
-            Refusal::BadLayout => 8,
-            Refusal::OtherPrime => 9,
-            Refusal::TooLarge => 10,
-            Refusal::WrongCount => 11,
-            Refusal::NotANumber => 12,
-            Refusal::BufferTooShort => 13,
-        }
+        self as u32
+    }
+}
+
+// As every program prints it: `refused NUMBER PLACE`.
+impl fmt::Display for Refused {
+    ghost output = { λ r. Some (codes "refused " ++ decimal (number_of r.reason) ++ codes " " ++ decimal r.at) };
+
+    fn fmt<W: fmt::Write>(&self, f: &mut fmt::Formatter<W>) -> fmt::Result {
+        let number = self.reason.number();
+        let at = self.at;
+        write!(f, "refused {number} {at}")
     }
 }
