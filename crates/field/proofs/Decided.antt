@@ -1,5 +1,5 @@
 -- Decisions as tests, and what the answer of `same` shows.
-use Rattle.std.proofs.Common.{◌≡◌, ℕ, Bool, true, false, sym, refl, ◌∙◌, arith}
+use Rattle.std.proofs.Common.{◌≡◌, Bool, true, false, sym, refl, ◌∙◌}
 use Rattle.field.specs.Operations.{Operations, decided}
 
 pub decided_yes : {P : Type 0} (d : Dec P) → P → decided d ≡ true
@@ -12,10 +12,10 @@ decided_no (no _) f = refl
 
 pub yes_decided : {P : Type 0} (d : Dec P) → decided d ≡ true → P
 yes_decided (yes p) e = p
-yes_decided (no f) e = let z : ◌≡◌ {A = ℕ} 0 1 = cc in let w : ⊥ = omega arith in absurd w
+yes_decided (no f) e = cc
 
 pub no_decided : {P : Type 0} (d : Dec P) → decided d ≡ false → ¬ P
-no_decided (yes p) e = λ _. let z : ◌≡◌ {A = ℕ} 0 1 = cc in omega arith
+no_decided (yes p) e = λ _. cc
 no_decided (no f) e = f
 
 module _ {F : Type 0} (O : Operations F) (x y : F) (s : Bool) (told : s ≡ decided (O.same x y)) where
