@@ -1,24 +1,20 @@
-// Kind 2: an assignment file, read into a table of a given length; its values.
-use crate::buffers::filled;
-use crate::numbers::{length, malformed};
-use crate::print::{print_elements, print_refused};
+// An assignment file, read into a table of a given length; its values.
+use crate::case::Case;
+use crate::print::Elements;
 use assignments::reader::read;
 use field::field::Field;
 use field::file_field::FileField;
 use std::io;
 
 // The table's length, then the file.
-pub(crate) fn answer<F: FileField>(rt: &HostRuntime, payload: &[u8]) -> io::Result<()> {
-    let Some((places, bytes)) = length(payload) else {
-        return Err(malformed());
-    };
-    let mut table = filled(rt.alloc(), F::zero(), places)?;
-    match read(bytes, &mut table) {
+pub(crate) fn answer<F: FileField>(rt: &HostRuntime, mut case: Case<'_>) -> io::Result<()> {
+    let places = case.length()?;
+    let mut table = vec![in rt.alloc(); F::zero(); places]?;
+    match read(case.rest(), &mut table) {
         Ok(()) => {
-            print!(rt; "granted")?;
-            print_elements(rt, &table)?;
+            let values = Elements(&table);
+            println!(rt; "granted{values}")
         }
-        Err(e) => print_refused(rt, e)?,
+        Err(e) => println!(rt; "{e}"),
     }
-    println!(rt; "")
 }

@@ -1,6 +1,5 @@
-// Kind 1: a constraint file, opened over a given prime; its numbers and its rows.
-use crate::numbers::{long, malformed};
-use crate::print::print_refused;
+// A constraint file, opened over a given prime; its numbers and its rows.
+use crate::case::Case;
 use constraints::header::Header;
 use constraints::item::reader::ItemReader;
 use constraints::reader::{RowReader, open};
@@ -16,22 +15,18 @@ fn print_header(rt: &impl Print, h: Header) -> io::Result<()> {
 // The items of a list; the twelve bytes of each bound their count.
 fn print_list(rt: &impl Print, part: &[u8]) -> io::Result<()> {
     let mut items = ItemReader::new(part);
-    for _ in 0..part.len() {
+    for _ in part {
         let Some(item) = items.next() else {
             break;
         };
-        let wire = item.wire;
-        let coefficient = item.coefficient;
-        print!(rt; " {wire}:{coefficient}")?;
+        print!(rt; " {}:{}", item.wire, item.coefficient)?;
     }
     print!(rt; ";")
 }
 
 // As many rows as the header says, then what the reader hands out once more: none.
-fn print_rows(rt: &impl Print, reader: RowReader<'_>) -> io::Result<()> {
-    let mut reader = reader;
-    let rows = reader.header().rows;
-    for _ in 0..rows {
+fn print_rows(rt: &impl Print, mut reader: RowReader<'_>) -> io::Result<()> {
+    for _ in 0..reader.header().rows {
         let Some(row) = reader.next() else {
             return print!(rt; " missing");
         };
@@ -54,14 +49,13 @@ pub(crate) fn print_opened(rt: &impl Print, bytes: &[u8], prime: u64) -> io::Res
             print_header(rt, reader.header())?;
             print_rows(rt, reader)
         }
-        Err(e) => print_refused(rt, e),
+        Err(e) => print!(rt; "{e}"),
     }
 }
 
-pub(crate) fn answer(rt: &HostRuntime, payload: &[u8]) -> io::Result<()> {
-    let Some((prime, bytes)) = long(payload) else {
-        return Err(malformed());
-    };
-    print_opened(rt, bytes, prime)?;
+// The prime, then the file.
+pub(crate) fn answer(rt: &HostRuntime, mut case: Case<'_>) -> io::Result<()> {
+    let prime = case.long()?;
+    print_opened(rt, case.rest(), prime)?;
     println!(rt; "")
 }

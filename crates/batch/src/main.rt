@@ -3,41 +3,40 @@
 #![tactic(auto)]
 
 mod assignment;
-mod buffers;
 mod calls;
+mod case;
 mod circuit;
 mod fields;
-mod numbers;
+mod kind;
 mod print;
 mod program;
 mod survey;
 mod text;
 mod values;
 
-use numbers::{malformed, next_case};
+use case::Case;
+use kind::Kind;
 use std::{env, fs, io};
 
-// A kind that no field is chosen for has a line here; the others are told apart in `fields`.
-fn answer(rt: &HostRuntime, kind: u32, payload: &[u8]) -> io::Result<()> {
+fn answer(rt: &HostRuntime, kind: Kind, case: Case<'_>) -> io::Result<()> {
     match kind {
-        1 => circuit::answer(rt, payload),
-        6 => text::answer(rt, payload),
-        _ => fields::answer(rt, kind, payload),
+        Kind::Circuit => circuit::answer(rt, case),
+        Kind::Text => text::answer(rt, case),
+        Kind::Over(question) => fields::answer(rt, question, case),
     }
 }
 
 // A case takes at least a byte, so there are no more of them than bytes.
 fn answer_all(rt: &HostRuntime, bytes: &[u8]) -> io::Result<()> {
-    let mut rest = bytes;
-    for _ in 0..bytes.len() {
-        if rest.is_empty() {
+    let mut cases = Case::new(bytes);
+    for _ in bytes {
+        if cases.is_empty() {
             break;
         }
-        let Some((kind, payload, after)) = next_case(rest) else {
-            return Err(malformed());
-        };
-        answer(rt, kind, payload)?;
-        rest = after;
+        let kind = Kind::try_from(cases.word()?)?;
+        let size = cases.length()?;
+        let payload = cases.part(size)?;
+        answer(rt, kind, Case::new(payload))?;
     }
     Ok(())
 }

@@ -1,48 +1,50 @@
 // How answers, elements and bytes are printed.
 use field::file_field::FileField;
 use refusal::refused::Refused;
-use std::io;
-
-pub(crate) fn print_refused(rt: &impl Print, refused: Refused) -> io::Result<()> {
-    let number = refused.reason.number();
-    let at = refused.at;
-    print!(rt; "refused {number} {at}")
-}
+use std::fmt;
 
 // What a call that answers nothing else answered.
-pub(crate) fn print_answer(rt: &impl Print, answer: Result<(), Refused>) -> io::Result<()> {
-    match answer {
-        Ok(()) => print!(rt; "granted"),
-        Err(e) => print_refused(rt, e),
+#[derive(Clone, Copy)]
+pub(crate) struct Answer(pub(crate) Result<(), Refused>);
+
+impl fmt::Display for Answer {
+    fn fmt<W: fmt::Write>(&self, f: &mut fmt::Formatter<W>) -> fmt::Result {
+        match self.0 {
+            Ok(()) => write!(f, "granted"),
+            Err(e) => write!(f, "{e}"),
+        }
     }
 }
 
-// An element by its coordinates, joined by commas.
-fn print_element<F: FileField>(rt: &impl Print, x: F) -> io::Result<()> {
-    match (
-        x.coordinate(0),
-        x.coordinate(1),
-        x.coordinate(2),
-        x.coordinate(3),
-    ) {
-        (Some(a), Some(b), Some(c), Some(d)) => print!(rt; " {a},{b},{c},{d}"),
-        (Some(a), Some(b), _, _) => print!(rt; " {a},{b}"),
-        (Some(a), _, _, _) => print!(rt; " {a}"),
-        _ => print!(rt; " ?"),
+// Elements, each behind a space, by their coordinates, which commas join: no field here has more than four.
+#[derive(Clone, Copy)]
+pub(crate) struct Elements<'a, F>(pub(crate) &'a [F]);
+
+impl<'a, F: FileField> fmt::Display for Elements<'a, F> {
+    fn fmt<W: fmt::Write>(&self, f: &mut fmt::Formatter<W>) -> fmt::Result {
+        for x in self.0 {
+            let mut before = ' ';
+            for i in 0..4 {
+                if let Some(c) = x.coordinate(i) {
+                    write!(f, "{before}{c}")?;
+                    before = ',';
+                }
+            }
+        }
+        Ok(())
     }
 }
 
-pub(crate) fn print_elements<F: FileField>(rt: &impl Print, xs: &[F]) -> io::Result<()> {
-    for x in xs {
-        print_element(rt, *x)?;
-    }
-    Ok(())
-}
+// Bytes in hexadecimal.
+#[derive(Clone, Copy)]
+pub(crate) struct Hex<'a>(pub(crate) &'a [u8]);
 
-pub(crate) fn print_bytes(rt: &impl Print, bytes: &[u8]) -> io::Result<()> {
-    for b in bytes {
-        let b = *b;
-        print!(rt; "{b:02x}")?;
+impl<'a> fmt::Display for Hex<'a> {
+    fn fmt<W: fmt::Write>(&self, f: &mut fmt::Formatter<W>) -> fmt::Result {
+        for b in self.0 {
+            let b = *b;
+            write!(f, "{b:02x}")?;
+        }
+        Ok(())
     }
-    Ok(())
 }

@@ -1,42 +1,14 @@
-// Kind 5: the square program of a sheet, written as a constraint file and read back.
-use crate::buffers::filled;
+// The square program of a sheet, written as a constraint file and read back.
+use crate::case::Case;
 use crate::circuit::print_opened;
-use crate::numbers::{element, length, malformed, read_counts};
-use crate::print::{print_bytes, print_refused};
-use field::field::Field;
+use crate::print::Hex;
 use field::file_field::FileField;
-use frames::number::word;
 use sheet::counts::Counts;
 use sheet::entry::Entry;
 use sheet::head::Head;
 use sheet::head::calls::{TABLE_SIZE, enter, plan};
 use square_file::writer::write_program;
 use std::io;
-
-fn entry<F: FileField>(bytes: &[u8]) -> Option<(Entry<F>, &[u8])> {
-    let (matrix, rest) = word(bytes)?;
-    let (row, rest) = word(rest)?;
-    let (wire, rest) = word(rest)?;
-    let (coefficient, rest) = element(rest)?;
-    let read = Entry {
-        matrix,
-        row,
-        wire,
-        coefficient,
-    };
-    Some((read, rest))
-}
-
-// Reads as many entries as the list has places; what follows them.
-fn read_entries<'a, F: FileField>(bytes: &'a [u8], list: &mut [Entry<F>]) -> Option<&'a [u8]> {
-    let mut rest = bytes;
-    for i in 0..list.len() {
-        let (read, after) = entry(rest)?;
-        list[i] = read;
-        rest = after;
-    }
-    Some(rest)
-}
 
 // Enters each of the list, as far as it is granted.
 fn enter_all<F: FileField>(head: &mut Head, table: &mut [Entry<F>], list: &[Entry<F>]) {
@@ -47,8 +19,8 @@ fn enter_all<F: FileField>(head: &mut Head, table: &mut [Entry<F>], list: &[Entr
 
 // Puts the list over the first places of the table, whatever they hold.
 fn lay_over<F: FileField>(table: &mut [Entry<F>], list: &[Entry<F>]) {
-    for i in 0..list.len().min(table.len()) {
-        table[i] = list[i];
+    for (place, e) in table.iter_mut().zip(list) {
+        *place = *e;
     }
 }
 
@@ -59,15 +31,14 @@ fn print_file<F: FileField>(
     table: &[Entry<F>],
     room: usize,
 ) -> io::Result<()> {
-    let mut out = filled(rt.alloc(), 170u8, room)?;
+    let mut out = vec![in rt.alloc(); 170u8; room]?;
     match write_program(head, table, &mut out) {
         Ok(size) => {
-            print!(rt; "granted {size} ")?;
-            print_bytes(rt, &out)?;
-            print!(rt; " ")?;
+            let bytes = Hex(&out);
+            print!(rt; "granted {size} {bytes} ")?;
             print_opened(rt, &out[0..size], F::prime())
         }
-        Err(e) => print_refused(rt, e),
+        Err(e) => print!(rt; "{e}"),
     }
 }
 
@@ -82,49 +53,29 @@ fn print_program<F: FileField>(
 ) -> io::Result<()> {
     let blank = Entry::<F>::blank();
     match plan::<F>(counts) {
-        Ok(made) => {
-            let mut head = made;
-            let mut table = filled(rt.alloc(), blank, TABLE_SIZE)?;
+        Ok(mut head) => {
+            let mut table = vec![in rt.alloc(); blank; TABLE_SIZE]?;
             enter_all(&mut head, &mut table, entered);
             lay_over(&mut table, laid);
-            let mut lent = filled(rt.alloc(), blank, places)?;
+            let mut lent = vec![in rt.alloc(); blank; places]?;
             lay_over(&mut lent, &table);
             print_file(rt, &head, &lent, room)
         }
-        Err(e) => print_refused(rt, e),
+        Err(e) => print!(rt; "{e}"),
     }
 }
 
 // The sheet's numbers, the places of the table, the room for the file, and two lists of entries, how many first: those that are entered,
 // and those that are laid over the table's first places.
-pub(crate) fn answer<F: FileField>(rt: &HostRuntime, payload: &[u8]) -> io::Result<()> {
-    let Some((counts, rest)) = read_counts(payload) else {
-        return Err(malformed());
-    };
-    let Some((places, rest)) = length(rest) else {
-        return Err(malformed());
-    };
-    let Some((room, rest)) = length(rest) else {
-        return Err(malformed());
-    };
-    let Some((entered_count, rest)) = length(rest) else {
-        return Err(malformed());
-    };
-    let Some((laid_count, rest)) = length(rest) else {
-        return Err(malformed());
-    };
-    let blank = Entry::<F>::blank();
-    let mut entered = filled(rt.alloc(), blank, entered_count)?;
-    let mut laid = filled(rt.alloc(), blank, laid_count)?;
-    let Some(rest) = read_entries(rest, &mut entered) else {
-        return Err(malformed());
-    };
-    let Some(rest) = read_entries(rest, &mut laid) else {
-        return Err(malformed());
-    };
-    if !rest.is_empty() {
-        return Err(malformed());
-    }
+pub(crate) fn answer<F: FileField>(rt: &HostRuntime, mut case: Case<'_>) -> io::Result<()> {
+    let counts = case.counts()?;
+    let places = case.length()?;
+    let room = case.length()?;
+    let entered_count = case.length()?;
+    let laid_count = case.length()?;
+    let entered = case.list(rt.alloc(), entered_count, |c| c.entry::<F>())?;
+    let laid = case.list(rt.alloc(), laid_count, |c| c.entry::<F>())?;
+    case.end()?;
     print_program(rt, counts, places, room, &entered, &laid)?;
     println!(rt; "")
 }
