@@ -4,7 +4,7 @@ use Rattle.refusal.specs.Due.{Due}
 use Rattle.refusal.specs.Numbers.{number_of}
 use Rattle.refusal.specs.declared.reason.Refusal.{Refusal}
 use Rattle.sheet.specs.Shape.{Shape, n, columns}
-use Rattle.sheet.specs.Outcomes.{shape}
+use Rattle.sheet.specs.Outcomes.{counted}
 use Rattle.sheet.specs.Model.{sheet}
 use Rattle.square.proofs.Heads.{shape_same, n_same, columns_same}
 use Rattle.runs.specs.Runs.{Run}
@@ -17,12 +17,12 @@ use Rattle.runs.proofs.survey.survey.Goals as goal
 pub returns-in_err-planned : goal.returns-in_err-planned
 returns-in_err-planned g c =
     let p = err_from_is_err_and c.from_residual.result c.from_residual.ensures.1 in
-    rw (p.1, p.2) (planned_refused g.F.Field.ops (shape c.args.wires c.args.publics c.args.rows) _ _ _ c.in_err-planned.ensures.0, refl)
+    rw (p.1, p.2) (planned_refused g.F.Field.ops (counted c.args.counts) _ _ _ c.in_err-planned.ensures.0, refl)
 
 pub returns-then-not-buffers_fit : goal.returns-then-not-buffers_fit
 returns-then-not-buffers_fit g c =
     let O = g.F.Field.ops in
-    let S = shape c.args.wires c.args.publics c.args.rows in
+    let S = counted c.args.counts in
     let calls = c.args.calls.now in
     let x : Buffers g.row.F.Denot = record { answers = c.args.answers.now; entries = c.args.entries.now; values = c.args.values.now; extended = c.args.extended.now; quotient = c.args.divided.now; public = c.args.published.now } in
     let sizes : Lengths = lengths O S calls x (length c.args.work.now) (length c.args.scratch.now) in
@@ -35,7 +35,7 @@ returns-then-not-buffers_fit g c =
 pub returns-in_err-head : goal.returns-in_err-head
 returns-in_err-head g c =
     let O = g.F.Field.ops in
-    let S = shape c.args.wires c.args.publics c.args.rows in
+    let S = counted c.args.counts in
     let calls = c.args.calls.now in
     let x : Buffers g.row.F.Denot = record { answers = c.args.answers.now; entries = c.args.entries.now; values = c.args.values.now; extended = c.args.extended.now; quotient = c.args.divided.now; public = c.args.published.now } in
     let sizes : Lengths = lengths O S calls x (length c.args.work.now) (length c.args.scratch.now) in
@@ -49,7 +49,7 @@ returns-in_err-head g c =
 pub replay-requires : goal.replay-requires
 replay-requires g c =
     let O = g.F.Field.ops in
-    let S = shape c.args.wires c.args.publics c.args.rows in
+    let S = counted c.args.counts in
     let calls = c.args.calls.now in
     let x : Buffers g.row.F.Denot = record { answers = c.args.answers.now; entries = c.args.entries.now; values = c.args.values.now; extended = c.args.extended.now; quotient = c.args.divided.now; public = c.args.published.now } in
     let sizes : Lengths = lengths O S calls x (length c.args.work.now) (length c.args.scratch.now) in
@@ -72,7 +72,7 @@ replay-requires g c =
 pub returns : goal.returns
 returns g c =
     let O = g.F.Field.ops in
-    let S = shape c.args.wires c.args.publics c.args.rows in
+    let S = counted c.args.counts in
     let calls = c.args.calls.now in
     let x : Buffers g.row.F.Denot = record { answers = c.args.answers.now; entries = c.args.entries.now; values = c.args.values.now; extended = c.args.extended.now; quotient = c.args.divided.now; public = c.args.published.now } in
     let sizes : Lengths = lengths O S calls x (length c.args.work.now) (length c.args.scratch.now) in
