@@ -1,41 +1,13 @@
 -- The search for the least power of two.
-use Rattle.std.proofs.Common.{◌≡◌, ℕ, zero, suc, ◌+◌, ◌^◌, ◌<◌, ◌≤◌, Bool, true, false, cond, leb, sym, refl, ap, ◌∙◌, ⊎_elim, add-zero, arith, pow_mono}
-use Rattle.std.proofs.lemmas.Bool.{cond-true, cond-false, lt-leb, le-leb, leb-true, cases_lt, true≢false}
+use Rattle.std.proofs.Common.{◌≡◌, ℕ, zero, suc, ◌+◌, ◌*◌, ◌/◌, ◌^◌, ◌<◌, ◌≤◌, max, Bool, true, false, cond, leb, sym, refl, ap, ◌∙◌, ⊎_elim, add-zero, arith, pow_mono, pow_pos}
+use lib.Pow.{pow-lt}
+use Rattle.std.specs.Int.{IsPowerOfTwo}
+use Rattle.std.proofs.lemmas.Bool.{le-leb, leb-true, cases_lt, true≢false}
 use Rattle.sheet.specs.Shape.{first, log_up, LeastPower}
 
--- a number that passes, where none before it does, is the first
-pub first_is : (test : ℕ → Bool) (count i r : ℕ) → i ≤ r → r < i + count → test r ≡ true → ((d : ℕ) → i ≤ d → d < r → test d ≡ false) → first test count i ≡ r
-unfolding first
-first_is test zero i r h k t f = absurd (omega arith)
-first_is test (suc count) i r h k t f =
-    ⊎_elim
-    (λ (l : i < r).
-    cond-false (test i) i (first test count (i + 1)) (f i (omega arith) l)
-    ∙ first_is test count (i + 1) r (omega arith) (omega arith) t (λ d a b. f d (omega arith) b))
-    (λ (g : r ≤ i).
-    let e : i ≡ r = omega arith in
-    cond-true (test i) i (first test count (i + 1)) (ap test e ∙ t) ∙ e)
-    (cases_lt i r)
-
-pub power_above : (x : ℕ) → x < 2 ^ x
+power_above : (x : ℕ) → x < 2 ^ x
 power_above zero = omega arith
 power_above (suc x) = let h = power_above x in omega arith
-
-pub exponent_below : (e x : ℕ) → 2 ^ e < x → x ≤ 2048 → e < 11
-exponent_below e x h k =
-    ⊎_elim (λ l. l)
-    (λ g. let p : 2048 ≤ 2 ^ e = pow_mono {i = 11} g in omega arith)
-    (cases_lt e 11)
-
--- 2 ^ e is enough, and no power before it is
-pub log_up_is : (x e : ℕ) → x ≤ 2 ^ e → ((d : ℕ) → d < e → 2 ^ d < x) → log_up x ≡ e
-unfolding log_up first
-log_up_is zero zero h f = refl
-log_up_is (suc x) zero h f = first_is (λ d. leb (suc x) (2 ^ d)) (suc x) 0 0 (omega arith) (omega arith) (le-leb (suc x) (2 ^ 0) h) (λ d _ k. lt-leb (suc x) (2 ^ d) (f d k))
-log_up_is x (suc e) h f =
-    let last = f e (omega arith) in
-    let more = power_above e in
-    first_is (λ d. leb x (2 ^ d)) x 0 (suc e) (omega arith) (omega arith) (le-leb x (2 ^ suc e) h) (λ d _ k. lt-leb x (2 ^ d) (f d k))
 
 -- where the number after the last passes, what is found passes and none before it does
 first_finds : (test : ℕ → Bool) (count i : ℕ) → test (i + count) ≡ true → (test (first test count i) ≡ true) × ((d : ℕ) → i ≤ d → d < first test count i → test d ≡ false)
@@ -71,3 +43,20 @@ log_up_least x =
           (λ g. pow_mono g)
           (cases_lt d (first (λ e. leb x (2 ^ e)) x 0));
     }
+
+-- the library's next power of two is the one that is searched for
+pub next_is : (x p : ℕ) → IsPowerOfTwo p → x ≤ p → p / 2 < max 1 x → p ≡ 2 ^ log_up x
+next_is x p (e, is) enough tight =
+    let found = log_up_least x in
+    let some = pow_pos (log_up x) in
+    let above : ¬ (log_up x < e) = λ (l : log_up x < e). let more = pow_mono {i = suc (log_up x)} l in omega (arith, found.enough) in
+    let most : 2 ^ e ≤ 2 ^ log_up x = pow_mono (omega (arith, above)) in
+    let least : 2 ^ log_up x ≤ 2 ^ e = found.least e (omega arith) in
+    omega arith
+
+-- and its logarithm of a power is the exponent
+pub exponent_is : (e r : ℕ) → 2 ^ r ≤ 2 ^ e → 2 ^ e < 2 * 2 ^ r → r ≡ e
+exponent_is e r a b =
+    let below : ¬ (r < e) = λ (l : r < e). let more = pow_mono {i = suc r} l in omega arith in
+    let above : ¬ (e < r) = λ (l : e < r). let more = pow-lt l in omega arith in
+    omega (arith, below, above)

@@ -1,6 +1,5 @@
 // Making a sheet and filling it.
-ghost use Rattle.std.specs.Prelude.{◌≡◌, ◌*◌, ◌^◌, ◌<◌, ◌≤◌, T, length};
-ghost use Rattle.sheet.specs.Shape.{log_up};
+ghost use Rattle.std.specs.Prelude.{◌≡◌, ◌≤◌, T, length};
 ghost use Rattle.sheet.specs.Rules.{in_limits};
 ghost use Rattle.sheet.specs.Outcomes.{Planned, Made, Entered, Assigned, Numbers, counted, first_values};
 
@@ -15,37 +14,12 @@ use refusal::refused::Refused;
 // How many records an entry table has.
 pub const TABLE_SIZE: usize = 2048;
 
-// The exponent of the least power of two that is at least x.
-fn log_up(x: usize) -> u32
-    requires some { 1 ≤ x }
-    requires few { x ≤ 2048 }
-    ensures is { result ≡ log_up x }
-    ensures enough { x ≤ 2 ^ result }
-    ensures small { result ≤ 11 }
-    ensures tight { 2 ^ result < 2 * x }
-{
-    let mut e = 0;
-    let mut power = 1;
-    while power < x {
-        power *= 2;
-        e += 1;
-    }
-    e
-}
-
-fn power_of_two(e: u32) -> usize
-    requires { e ≤ 11 }
-    ensures { result ≡ 2 ^ e }
-{
-    1 << e
-}
-
 fn within_limits(c: Counts) -> bool
     ensures is { result ≡ in_limits (counted c) }
     ensures tells { T result → (1 ≤ c.wires) × (c.wires ≤ 2048) × (1 ≤ c.publics) × (c.publics ≤ 256) × (c.publics ≤ c.wires) × (c.rows ≤ 512) }
 {
-    (1 <= c.wires && c.wires <= 2048)
-        && (1 <= c.publics && c.publics <= 256)
+    (1..=2048).contains(&c.wires)
+        && (1..=256).contains(&c.publics)
         && (c.publics <= c.wires && c.rows <= 512)
 }
 
@@ -54,9 +28,8 @@ fn reset<F: Field>(values: &mut [F])
     requires { 1 ≤ length values.old }
     ensures { values.new ≡ first_values F.ops (length values.old) }
 {
-    for v in values.iter_mut() {
-        *v = F::zero();
-    }
+    let zero = F::zero();
+    values.fill_with(|| zero);
     values[0] = F::one();
 }
 
@@ -70,15 +43,15 @@ fn head_of(counts: Counts) -> Head
     let wires = counts.wires as usize;
     let publics = counts.publics as usize;
     let rows = counts.rows as usize;
-    let k = power_of_two(log_up(2 * publics));
-    let log_n = log_up(k + 2 * rows);
+    let k = (2 * publics).next_power_of_two();
+    let n = (k + 2 * rows).next_power_of_two();
     Head {
         wires,
         publics,
         rows,
         k,
-        n: power_of_two(log_n),
-        log_n,
+        n,
+        log_n: n.ilog2(),
         columns: wires + 2 * publics + rows,
         used: 0,
     }
