@@ -1,2 +1,3 @@
-pub mod Puts
+pub mod Littles
+pub mod Writers
 pub mod Numbered

@@ -1,0 +1,19 @@
+-- What a writer has written, and what is left of its buffer.
+use Rattle.std.specs.Prelude.{◌≡◌, ℕ, ◌<◌, ◌≤◌, List, ◌++◌, length, take, drop}
+use Rattle.writing.specs.declared.writer.Writer.{Writer}
+
+abbrev pub written : Writer → List ℕ
+written w = take w.len w.buffer.now
+
+-- what stands behind it, as it was lent
+abbrev pub rest : Writer → List ℕ
+rest w = drop w.len w.buffer.now
+
+-- these bytes are written behind what was, and all behind them is as it was
+pub record Appends (old : Writer) (ys : List ℕ) (new : Writer) : Type 0 where
+  pub text : written new ≡ written old ++ ys
+  pub behind : rest new ≡ drop (length ys) (rest old)
+
+-- the bytes are written where there is room for them, and nothing is changed where there is none
+abbrev pub Writes : Writer → List ℕ → Writer → Type 0
+Writes old ys new = (length ys ≤ length (rest old) → Appends old ys new) × (length (rest old) < length ys → new ≡ old)

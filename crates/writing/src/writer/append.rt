@@ -1,0 +1,64 @@
+// Bytes and little-endian numbers, each appended to what is written. Where one does not fit, nothing is changed.
+ghost use Rattle.std.specs.Prelude.{◌≡◌, [], ◌++◌, length};
+ghost use Rattle.frames.specs.Little.{little};
+ghost use Rattle.writing.specs.Written.{written, rest, Writes};
+
+use crate::put::put;
+use crate::writer::Writer;
+
+impl<'a> Writer<'a> {
+    // Nothing is written yet.
+    pub fn new(buffer: &'a mut [u8]) -> Writer<'a>
+        ensures written { written result ≡ [] }
+        ensures rest { rest result ≡ buffer.old }
+    {
+        Writer { buffer, len: 0 }
+    }
+
+    // The bytes so far.
+    pub fn written(&self) -> &[u8]
+        ensures { result.now ≡ written self.now }
+    {
+        &self.buffer[..self.len]
+    }
+
+    // How many bytes there is room for yet.
+    pub fn room(&self) -> usize
+        ensures { result ≡ length (rest self.now) }
+    {
+        self.buffer.len() - self.len
+    }
+
+    pub fn put(&mut self, bytes: &[u8])
+        ensures { Writes self.old bytes.now self.new }
+    {
+        if bytes.len() <= self.room() {
+            put(self.buffer, self.len, bytes);
+            self.len += bytes.len();
+        }
+    }
+
+    // A 4-byte number.
+    pub fn put_word(&mut self, word: u32)
+        ensures { Writes self.old (little 4 word) self.new }
+    {
+        self.put(&word.to_le_bytes());
+    }
+
+    // An 8-byte number.
+    pub fn put_long(&mut self, long: u64)
+        ensures { Writes self.old (little 8 long) self.new }
+    {
+        self.put(&long.to_le_bytes());
+    }
+
+    // An item of a list: a wire, and its coefficient's number.
+    pub fn put_item(&mut self, wire: u32, coefficient: u64)
+        ensures { Writes self.old (little 4 wire ++ little 8 coefficient) self.new }
+    {
+        if self.room() >= 12 {
+            self.put_word(wire);
+            self.put_long(coefficient);
+        }
+    }
+}
