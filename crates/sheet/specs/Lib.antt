@@ -1,4 +1,5 @@
 pub mod Shape
+pub mod Matrix
 pub mod Rules
 pub mod Outcomes
 pub mod Model

@@ -5,3 +5,4 @@ pub mod call;
 pub mod counts;
 pub mod entry;
 pub mod head;
+pub mod matrix;
