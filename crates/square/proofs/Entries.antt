@@ -30,10 +30,10 @@ all_inside_parts S e es h =
     let parts = and_parts (inside S e.matrix e.row e.wire) (all_inside S es) h in
     (inside_is S e parts.0, parts.1)
 
-pub inside_at : {F : Type 0} (S : Shape) (es : List (Entry F)) (j : ℕ) (d : Entry F) → all_inside S es ≡ true → j < length es → Inside S (get_or es j d)
-inside_at S [] j d h l = absurd (not-suc-le-zero l)
-inside_at S (e ∷ es) zero d h l = (all_inside_parts S e es h).0
-inside_at S (e ∷ es) (suc j) d h l = inside_at S es j d (all_inside_parts S e es h).1 (le_of_suc-le-suc l)
+pub wire_at : {F : Type 0} (S : Shape) (es : List (Entry F)) (j : ℕ) (e : Entry F) → all_inside S es ≡ true → j < length es → e ≡ get_or es j e → e.wire < S.m
+wire_at S [] j e h l read = absurd (not-suc-le-zero l)
+wire_at S (x ∷ es) zero e h l read = rw read ((all_inside_parts S x es h).0.wire)
+wire_at S (x ∷ es) (suc j) e h l read = wire_at S es j e (all_inside_parts S x es h).1 (le_of_suc-le-suc l) read
 
 -- ── The pass ──
 
@@ -43,10 +43,10 @@ module _ {F : Type 0} (O : Operations F) (matrix row : ℕ) (z : ℕ → F) wher
   infixl 60 ◌⊕◌
   infixl 70 ◌⊗◌
   -- what an entry adds to the sum of a row: its coefficient times its wire's value, where matrix and row agree
-  unfoldable pub contribution : Entry F → F
+  contribution : Entry F → F
   contribution e = only O e.matrix matrix (only O e.row row (e.coefficient ⊗ z e.wire))
 
-  unfoldable pub pass : List (Entry F) → F
+  pub pass : List (Entry F) → F
   pass [] = 𝟘
   pass (e ∷ es) = contribution e ⊕ pass es
 
@@ -55,11 +55,11 @@ module _ {F : Type 0} {O : Operations F} (L : Laws O) (matrix row : ℕ) (z : �
 
   infixl 60 ◌⊕◌
   infixl 70 ◌⊗◌
-  pub contribution_here : (e : Entry F) → e.matrix ≡ matrix → e.row ≡ row → contribution O matrix row z e ≡ e.coefficient ⊗ z e.wire
+  contribution_here : (e : Entry F) → e.matrix ≡ matrix → e.row ≡ row → contribution O matrix row z e ≡ e.coefficient ⊗ z e.wire
   unfolding contribution
   contribution_here e m r = only_same L e.matrix matrix _ m ∙ only_same L e.row row _ r
 
-  pub contribution_elsewhere : (e : Entry F) → (e.matrix ≢ matrix) ⊎ (e.row ≢ row) → contribution O matrix row z e ≡ 𝟘
+  contribution_elsewhere : (e : Entry F) → (e.matrix ≢ matrix) ⊎ (e.row ≢ row) → contribution O matrix row z e ≡ 𝟘
   unfolding contribution
   contribution_elsewhere e (inl m) = only_other L e.matrix matrix _ m
   contribution_elsewhere e (inr r) = ap (only O e.matrix matrix) (only_other L e.row row _ r) ∙ only_zero L e.matrix matrix
@@ -68,21 +68,31 @@ module _ {F : Type 0} {O : Operations F} (L : Laws O) (matrix row : ℕ) (z : �
   unfolding pass
   pass_none = refl
 
-  pub pass_append : (xs ys : List (Entry F)) → pass O matrix row z (xs ++ ys) ≡ pass O matrix row z xs ⊕ pass O matrix row z ys
+  pass_append : (xs ys : List (Entry F)) → pass O matrix row z (xs ++ ys) ≡ pass O matrix row z xs ⊕ pass O matrix row z ys
   unfolding pass
   pass_append [] ys = sym (zero_add L.ring (pass O matrix row z ys))
   pass_append (e ∷ xs) ys = ap (λ t. contribution O matrix row z e ⊕ t) (pass_append xs ys) ∙ sym (L.ring.add_assoc _ _ _)
 
-  -- one entry more
-  pub pass_more : (es : List (Entry F)) (j : ℕ) (d : Entry F) → j < length es
-      → pass O matrix row z (take (j + 1) es) ≡ pass O matrix row z (take j es) ⊕ contribution O matrix row z (get_or es j d)
-  pass_more es j d h =
-      ap (pass O matrix row z) (take_more es j d h)
-      ∙ pass_append (take j es) (get_or es j d ∷ [])
-      ∙ ap (λ t. pass O matrix row z (take j es) ⊕ t) alone
+  pass_more : (es : List (Entry F)) (j : ℕ) (e : Entry F) → j < length es → e ≡ get_or es j e
+      → pass O matrix row z (take (j + 1) es) ≡ pass O matrix row z (take j es) ⊕ contribution O matrix row z e
+  pass_more es j e h read =
+      ap (pass O matrix row z) (take_more es j e h)
+      ∙ pass_append (take j es) (get_or es j e ∷ [])
+      ∙ ap (λ t. pass O matrix row z (take j es) ⊕ t) (alone ∙ ap (contribution O matrix row z) (sym read))
     where
-      alone : pass O matrix row z (get_or es j d ∷ []) ≡ contribution O matrix row z (get_or es j d)
+      alone : pass O matrix row z (get_or es j e ∷ []) ≡ contribution O matrix row z (get_or es j e)
       alone = unfold pass in L.ring.add_zero _
+
+  -- one entry more, which counts where its matrix and row are those of the sum
+  module _ (es : List (Entry F)) (j : ℕ) (e : Entry F) (within : j < length es) (read : e ≡ get_or es j e) where
+    pub pass_here : e.matrix ≡ matrix → e.row ≡ row → pass O matrix row z (take (j + 1) es) ≡ pass O matrix row z (take j es) ⊕ e.coefficient ⊗ z e.wire
+    pass_here m r = pass_more es j e within read ∙ ap (λ t. pass O matrix row z (take j es) ⊕ t) (contribution_here e m r)
+
+    pub pass_elsewhere : (e.matrix ≢ matrix) ⊎ (e.row ≢ row) → pass O matrix row z (take (j + 1) es) ≡ pass O matrix row z (take j es)
+    pass_elsewhere other =
+        pass_more es j e within read
+        ∙ ap (λ t. pass O matrix row z (take j es) ⊕ t) (contribution_elsewhere e other)
+        ∙ L.ring.add_zero (pass O matrix row z (take j es))
 
   -- over entries within the sheet it is the row's sum
   pub dot_pass : (S : Shape) (es : List (Entry F)) → all_inside S es ≡ true → row_sum O S (position O es) z matrix row ≡ pass O matrix row z es

@@ -1,5 +1,6 @@
 -- The row that is reported: none just where all rows hold, and row i just where row i is the first that fails.
-use Rattle.std.proofs.Common.{◌≡◌, ℕ, zero, suc, ◌+◌, ◌-◌, ◌<◌, ◌≤◌, Bool, true, false, cond, ◌⊎◌, ◌↔◌, Some, None, Option, sym, refl, ap, ◌∙◌, subst, inl, inr, arith}
+use Rattle.std.proofs.Common.{◌≡◌, ℕ, zero, suc, ◌+◌, ◌-◌, ◌<◌, ◌≤◌, Bool, true, false, cond, ◌⊎◌, ◌↔◌, Some, None, Option, not, find, option_map, sym, refl, ap, ◌∙◌, subst, inl, inr, arith}
+use Rattle.std.specs.List.{range_with_len}
 use Rattle.std.proofs.lemmas.Bool.{cases_Bool, cases_eq, cond-true, cond-false}
 use Rattle.field.specs.Operations.{Operations, decided}
 use Rattle.field.proofs.Decided.{decided_yes, decided_no, yes_decided, no_decided}
@@ -9,6 +10,16 @@ use Rattle.square.specs.Rows.{first_failure, row_sum, Holds, AllHold, FirstFaili
 -- ── The first failure of a test ──
 
 module _ (test : ℕ → Bool) where
+  -- to look for the first that fails, from 0 on
+  failure_found : (count i : ℕ) → find (λ j. not (test j)) (range_with_len i count) ≡ first_failure test count i
+  unfolding first_failure
+  failure_found zero i = refl
+  failure_found (suc count) i =
+      elim (cases_Bool (test i)) [
+        | inl t ↦ rw t (failure_found count (i + 1))
+        | inr t ↦ rw t refl
+      ]
+
   -- one number after another, up to n
   pub failure_next : (n i : ℕ) (b : Bool) → i < n → b ≡ test i
       → first_failure test (n - i) i ≡ cond b (first_failure test (n - (i + 1)) (i + 1)) (Some i)
@@ -89,6 +100,12 @@ module _ {F : Type 0} (O : Operations F) (S : Shape) (c : (matrix row wire : ℕ
 
   abbrev pub test : ℕ → Bool
   test i = decided (holds? i)
+
+  -- the search for a row that does not hold finds it
+  pub failing_row_found : (r : Option ℕ) → option_map (λ i. i) r ≡ find (λ i. not (test i)) (range_with_len 0 S.N) → r ≡ failing_row O S c z
+  unfolding failing_row
+  failing_row_found None h = h ∙ failure_found test S.N 0
+  failing_row_found (Some i) h = h ∙ failure_found test S.N 0
 
   pub all_hold_none : AllHold O S c z → failing_row O S c z ≡ None
   unfolding failing_row

@@ -1,7 +1,6 @@
 pub mod Branches
 pub mod Dots
 pub mod Entries
-pub mod Inside
 pub mod FailingRow
 pub mod Fits
 pub mod Heads

@@ -1,5 +1,8 @@
 -- What public writes: k/n times the coefficients that take the sums of the public rows, repeated.
-use Rattle.std.proofs.Common.{◌≡◌, ℕ, zero, suc, ◌+◌, ◌-◌, ◌*◌, ◌%◌, ◌^◌, ◌<◌, ◌≤◌, List, [], ◌∷◌, length, sym, refl, ap, ◌∙◌, subst, ap₂, mod-lt, mul_comm, le-mul_of_pos_right, arith, pow_pos}
+use Rattle.std.proofs.Common.{◌≡◌, ℕ, zero, suc, ◌+◌, ◌-◌, ◌*◌, ◌%◌, ◌^◌, ◌<◌, ◌≤◌, List, [], ◌∷◌, ◌++◌, length, sym, refl, ap, ◌∙◌, subst, ap₂, length-append, mod-lt, mod-eq_of_lt, mul_comm, le-mul_of_pos_right, arith, pow_pos}
+use native.Mathlib.Decide.{dec_lt}
+use native.Mathlib.Nat.{mod-eq-sub-mod}
+use Rattle.std.proofs.lemmas.List.{get_or_append_left, get_or-append_right}
 use Rattle.field.specs.Operations.{Operations, power, ones}
 use Rattle.field.specs.Laws.{Laws}
 use Rattle.field.proofs.Solve.{①, ◌⊞◌, ◌⊠◌, ∸◌, ◌≈◌, ◌by◌, ◌⊢◌, by_ring_from}
@@ -32,6 +35,30 @@ module _ {F : Type 0} {O : Operations F} (L : Laws O) where
       ∙ by_ring_from L.ring 3
       (λ c h p. (① ⊞ ①) ⊠ h by (c ⊠ p ≈ ①) ∷ ① by ((① ⊞ ①) ⊠ h ≈ ①) ∷ [] ⊢ (c ⊞ c) ⊠ (h ⊠ p) ≈ ①)
       refl (ones O (2 ^ e)) (half O) (half O ^^ e) (half_power e) (L.mul_inverse (𝟙 ⊕ 𝟙) L.two)
+
+  -- the first places again and again
+  repeated : (count all : ℕ) (f : ℕ → F) (first rest : List F) → 0 < count → first ≡ table count f → rest ≡ table (all - count) (λ e. coefficient O first (e % length first))
+      → (e : ℕ) → e < all → coefficient O (first ++ rest) e ≡ f (e % count)
+  repeated count all f first rest some first-is rest-is e h =
+      elim (dec_lt e count) [
+        | yes l ↦
+            let l' : e < length first = omega (arith, size) in
+            get_or_append_left first rest 𝟘 e l' ∙ once e l ∙ ap f (sym (mod-eq_of_lt l))
+        | no l ↦
+            let past : count ≤ e = omega arith in
+            get_or-append_right first rest count e 𝟘 size past
+            ∙ ap (λ t. coefficient O t (e - count)) rest-is
+            ∙ get_or_table (all - count) _ 𝟘 (e - count) (omega arith)
+            ∙ ap (λ t. coefficient O first ((e - count) % t)) size
+            ∙ once ((e - count) % count) (mod-lt (e - count) some)
+            ∙ ap f (sym (mod-eq-sub-mod past))
+      ]
+    where
+      size : length first ≡ count
+      size = ap length first-is ∙ length_table count f
+
+      once : (i : ℕ) → i < count → coefficient O first i ≡ f i
+      once i l = ap (λ t. coefficient O t i) first-is ∙ get_or_table count f 𝟘 i l
 
   module _ (S : Shape) (fits : Fits S) (root : Root O (log_of_n S) (ω O S)) where
     -- 1/ω^stride
@@ -85,13 +112,24 @@ module _ {F : Type 0} {O : Operations F} (L : Laws O) where
           (size_inverse L (log_k S)) (half_power (log_of_n S)) (size_inverse L (log_of_n S))
           ∙ ap (λ t. scale ⊗ t) (sym (value_of_sums e))
 
-    pub public_is : (c : (matrix row wire : ℕ) → F) (v q : List F) → length q ≡ n S
-        → ((e : ℕ) → e < n S → coefficient O q e ≡ scale ⊗ value_at O (table (k S) (λ t. u_row O S c (coefficient O v) (t * stride S))) (step ^^ (e % k S)))
-        → PublicOf O S c v q
-    public_is c v q size written =
-        let y : ℕ → F = λ t. u_row O S c (coefficient O v) (t * stride S) in
+    -- the sums' values at the powers of the step, and then again and again
+    pub public_is : (c : (matrix row wire : ℕ) → F) (v first rest : List F)
+        → first ≡ table (k S) (λ e. scale ⊗ value_at O (table (k S) (λ t. u_row O S c (coefficient O v) (t * stride S))) (step ^^ e))
+        → rest ≡ table (n S - k S) (λ e. coefficient O first (e % length first))
+        → PublicOf O S c v (first ++ rest)
+    public_is c v first rest first-is rest-is =
         record {
           p = p y;
           p_takes = interp_takes L (log_k S) point step (inverse (ones O (k S))) point_root step_inverse (size_inverse L (log_k S)) y;
-          is = is_table 𝟘 q (n S) _ size (λ e h. written e h ∙ sym (scaled y (e % k S) (mod-lt e (pow_pos (log_k S)))));
+          is = is_table 𝟘 (first ++ rest) (n S) _ size
+              (λ e h. repeated (k S) (n S) _ first rest (pow_pos (log_k S)) first-is rest-is e h ∙ sym (scaled y (e % k S) (mod-lt e (pow_pos (log_k S)))));
         }
+      where
+        y : ℕ → F
+        y t = u_row O S c (coefficient O v) (t * stride S)
+
+        size : length (first ++ rest) ≡ n S
+        size =
+            length-append first rest
+            ∙ ap₂ ◌+◌ (ap length first-is ∙ length_table (k S) _) (ap length rest-is ∙ length_table (n S - k S) _)
+            ∙ (let within : k S ≤ n S = omega (arith, fits.all_rows) in omega arith)

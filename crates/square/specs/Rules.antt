@@ -1,5 +1,6 @@
 -- Which refusal extend, sums, quotient and public owe, line by line and in order.
-use Rattle.std.specs.Prelude.{ℕ, ◌+◌, ◌-◌, ◌*◌, Bool, true, ◌&&◌, List, [], ◌∷◌, None, ◌==◌, nat_le, nat_lt}
+use Rattle.std.specs.Prelude.{ℕ, ◌+◌, ◌-◌, ◌*◌, Bool, ◌&&◌, List, None, ◌==◌, nat_le, nat_lt}
+use Rattle.std.specs.List.{list_all}
 use Rattle.refusal.specs.Due.{Due, unless, unless_at}
 use Rattle.field.specs.Operations.{Operations, decided}
 use Rattle.transform.specs.Polynomial.{coefficient}
@@ -10,8 +11,7 @@ use Rattle.square.specs.Rows.{position, failing_row}
 
 -- every used entry lies within the sheet
 abbrev pub all_inside : {F : Type 0} → Shape → List (Entry F) → Bool
-all_inside S [] = true
-all_inside S (e ∷ es) = inside S e.matrix e.row e.wire && all_inside S es
+all_inside S es = list_all (λ e. inside S e.matrix e.row e.wire) es
 
 module _ {F : Type 0} (O : Operations F) (S : Shape) where
   abbrev pub starts_with_one : List F → Bool

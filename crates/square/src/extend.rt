@@ -1,20 +1,20 @@
 // The values of every wire of the square program.
-ghost use Rattle.std.specs.Prelude.{◌≡◌, ◌<◌, true, length};
+ghost use Rattle.std.specs.Prelude.{◌≡◌, ◌<◌, length};
 ghost use Rattle.transform.specs.Polynomial.{coefficient};
 ghost use Rattle.sheet.specs.Outcomes.{shape_of};
 ghost use Rattle.square.specs.Rows.{position};
 ghost use Rattle.square.specs.Program.{square, extended_at, extended};
-ghost use Rattle.square.specs.Rules.{all_inside};
 ghost use Rattle.square.specs.Outcomes.{Extended};
 
-use crate::left::{one_half, public_sum};
-use crate::rows::{is_consistent, sum_of_row};
+use crate::consistent::ConsistentSheet;
+use crate::left::one_half;
 use field::field::Field;
 use refusal::reason::Refusal;
 use refusal::refused::Refused;
 use sheet::entry::Entry;
 use sheet::head::Head;
 use sheet::head::calls::TABLE_SIZE;
+use sheet::matrix::Matrix;
 
 // x²
 fn squared<F: Field>(x: F) -> F
@@ -23,36 +23,34 @@ fn squared<F: Field>(x: F) -> F
     x.mul(x)
 }
 
-// The value of wire w of the square program: the sheet's own, or p, q or s as its row demands.
-fn value_of_wire<F: Field>(head: &Head, used: &[Entry<F>], values: &[F], w: usize) -> F
-    requires places { length values.now ≡ head.now.wires }
-    requires inside { all_inside (shape_of head.now) used.now ≡ true }
-    requires wire { w < head.now.columns }
-    ensures { result ≡ extended_at F.ops (shape_of head.now) (position F.ops used.now) (coefficient F.ops values.now) w }
-{
-    let wires = head.wires();
-    let publics = head.publics();
-    if w < wires {
-        return values[w];
+impl<'a, F: Field> ConsistentSheet<'a, F> {
+    // The value of wire w of the square program: the sheet's own, or p, q or s as its row demands.
+    fn value_of_wire(&self, w: usize) -> F
+        requires { w < self.now.head.now.columns }
+        ensures { result ≡ extended_at F.ops (shape_of self.now.head.now) (position F.ops self.now.used.now) (coefficient F.ops self.now.values.now) w }
+    {
+        let wires = self.head.wires();
+        let publics = self.head.publics();
+        if w < wires {
+            return self.values[w];
+        }
+        let t = w - wires;
+        if t < 2 * publics {
+            return squared(self.public_sum(one_half(), t));
+        }
+        let row = t - 2 * publics;
+        let a = self.sum_of_row(Matrix::A, row);
+        let b = self.sum_of_row(Matrix::B, row);
+        squared(a.add(b.neg()))
     }
-    let t = w - wires;
-    if t < 2 * publics {
-        return squared(public_sum(head, values, one_half(), t));
-    }
-    let row = (t - 2 * publics) as u32;
-    let a = sum_of_row(head, used, values, 0, row);
-    let b = sum_of_row(head, used, values, 1, row);
-    squared(a.add(b.neg()))
-}
 
-fn write_values<F: Field>(head: &Head, used: &[Entry<F>], values: &[F], out: &mut [F])
-    requires places { length values.now ≡ head.now.wires }
-    requires inside { all_inside (shape_of head.now) used.now ≡ true }
-    requires room { length out.old ≡ head.now.columns }
-    ensures { out.new ≡ extended F.ops (shape_of head.now) (position F.ops used.now) (coefficient F.ops values.now) }
-{
-    for w in 0..out.len() {
-        out[w] = value_of_wire(head, used, values, w);
+    fn write_values(&self, out: &mut [F])
+        requires { length out.old ≡ self.now.head.now.columns }
+        ensures { out.new ≡ extended F.ops (shape_of self.now.head.now) (position F.ops self.now.used.now) (coefficient F.ops self.now.values.now) }
+    {
+        for (w, value) in out.iter_mut().enumerate() {
+            *value = self.value_of_wire(w);
+        }
     }
 }
 
@@ -68,10 +66,7 @@ pub fn extend<F: Field>(
     if entries.len() != TABLE_SIZE || values.len() != head.wires() || out.len() != head.columns() {
         return Err(Refusal::WrongLength.at(0));
     }
-    let used = &entries[0..head.used()];
-    if !is_consistent(head, used, values) {
-        return Err(Refusal::Inconsistent.at(0));
-    }
-    write_values(head, used, values, out);
+    let sheet = ConsistentSheet::new(head, &entries[..head.used()], values)?;
+    sheet.write_values(out);
     Ok(())
 }

@@ -4,8 +4,8 @@ ghost use Rattle.field.specs.Operations.{decided};
 ghost use Rattle.sheet.specs.Outcomes.{shape_of};
 ghost use Rattle.square.specs.Outcomes.{Summed};
 
+use crate::consistent::ConsistentSheet;
 use crate::row_sums::RowSums;
-use crate::rows::{is_consistent, sums_of_row};
 use field::field::Field;
 use refusal::reason::Refusal;
 use refusal::refused::Refused;
@@ -37,9 +37,6 @@ pub fn sums<F: Field>(
     if row as usize >= head.rows() {
         return Err(Refusal::OutOfRange.at(0));
     }
-    let used = &entries[0..head.used()];
-    if !is_consistent(head, used, values) {
-        return Err(Refusal::Inconsistent.at(0));
-    }
-    Ok(sums_of_row(head, used, values, row))
+    let sheet = ConsistentSheet::new(head, &entries[..head.used()], values)?;
+    Ok(sheet.sums_of_row(row as usize))
 }
