@@ -36,8 +36,7 @@ module _ {F : Type 0} {O : Operations F} (L : Laws O) where
       let owed = d.0 in
       let none : unless (ltb 0 (length u) && eqb (length h₀) (length u - 1)) 5 None ≡ None =
       ap (λ t. unless t 5 None) (and_from _ _ (lt-ltb 0 (length u) some) (eq-eqb (length h₀) (length u - 1) size)) in
-      let z : ◌≡◌ {A = ℕ} 0 1 = cc in
-      omega arith
+      cc
 
   module _ (S : Shape) (fits : Fits S) (root : Root O (log_of_n S) (ω O S)) (c : (matrix row wire : ℕ) → F) (v : ℕ → F) where
     abbrev z : List F

@@ -1,5 +1,5 @@
 -- The row that is reported: none just where all rows hold, and row i just where row i is the first that fails.
-use Rattle.std.proofs.Common.{◌≡◌, ℕ, zero, suc, ◌+◌, ◌-◌, ◌<◌, ◌≤◌, Bool, true, false, cond, ◌⊎◌, ◌↔◌, Some, None, Option, not, find, option_map, sym, refl, ap, ◌∙◌, subst, inl, inr, arith}
+use Rattle.std.proofs.Common.{◌≡◌, ℕ, zero, suc, ◌+◌, ◌<◌, ◌≤◌, Bool, true, false, ◌⊎◌, ◌↔◌, Some, None, Option, not, find, option_map, sym, refl, ap, ◌∙◌, subst, inl, inr, arith}
 use Rattle.std.specs.List.{range_with_len}
 use Rattle.std.proofs.lemmas.Bool.{cases_Bool, cases_eq, cond-true, cond-false}
 use Rattle.field.specs.Operations.{Operations, decided}
@@ -19,18 +19,6 @@ module _ (test : ℕ → Bool) where
         | inl t ↦ rw t (failure_found count (i + 1))
         | inr t ↦ rw t refl
       ]
-
-  -- one number after another, up to n
-  pub failure_next : (n i : ℕ) (b : Bool) → i < n → b ≡ test i
-      → first_failure test (n - i) i ≡ cond b (first_failure test (n - (i + 1)) (i + 1)) (Some i)
-  unfolding first_failure
-  failure_next n i b h t =
-      let more : n - i ≡ suc (n - (i + 1)) = omega arith in
-      ap (λ count. first_failure test count i) more ∙ ap (λ x. cond x (first_failure test (n - (i + 1)) (i + 1)) (Some i)) (sym t)
-
-  pub failure_end : (n i : ℕ) → n ≤ i → first_failure test (n - i) i ≡ None
-  unfolding first_failure
-  failure_end n i h = let none : n - i ≡ 0 = omega arith in ap (λ count. first_failure test count i) none
 
   -- from, from + 1, .., to - 1 pass
   abbrev Passes : (from to : ℕ) → Type 0
@@ -85,7 +73,7 @@ module _ (test : ℕ → Bool) where
 -- ── The rows ──
 
 some≢none : {r : Option ℕ} {i : ℕ} → r ≡ Some i → r ≡ None → ⊥
-some≢none p q = let z : ◌≡◌ {A = ℕ} 0 1 = cc in omega arith
+some≢none p q = cc
 
 same_place : {r : Option ℕ} {i j : ℕ} → r ≡ Some i → r ≡ Some j → i ≡ j
 same_place p q = cc

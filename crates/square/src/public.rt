@@ -29,7 +29,7 @@ fn power_of<F: Field>(x: F, e: usize) -> F
 }
 
 // Fills `rest` with the first places again and again.
-fn repeat<F: Field>(first: &[F], rest: &mut [F])
+fn repeat_first<F: Field>(first: &[F], rest: &mut [F])
     requires { 0 < length first.now }
     ensures { rest.new ≡ table (length rest.old) (λ e. coefficient F.ops first.now (e % length first.now)) }
 {
@@ -45,6 +45,7 @@ impl<'a, F: Field> ConsistentSheet<'a, F> {
         ensures { let S = shape_of self.now.head.now in result ≡ value_at F.ops (table (k S) (λ t. u_row F.ops S (position F.ops []) (coefficient F.ops self.now.values.now) (t * stride S))) x }
     {
         let mut value = F::zero();
+        // the public rows have numbers and no table, so the loop is over the numbers
         for t in (0..self.head.k()).rev() {
             value = value.mul(x).add(self.public_sum(halving, t));
         }
@@ -76,7 +77,7 @@ impl<'a, F: Field> ConsistentSheet<'a, F> {
         let scale = power_of(one_half(), self.head.log_n() as usize);
         let (first, rest) = out.split_at_mut(self.head.k());
         self.write_first(step, scale, first);
-        repeat(first, rest);
+        repeat_first(first, rest);
     }
 }
 

@@ -1,5 +1,5 @@
 -- One factor more.
-use Rattle.std.proofs.Common.{◌≡◌, sym, ◌∙◌, add-one, arith}
+use Rattle.std.proofs.Common.{sym, ◌∙◌, add-one}
 use Rattle.transform.proofs.Powers.{power_zero, power_suc}
 use Rattle.square.proofs.public.power_of.Goals as goal
 
@@ -12,6 +12,3 @@ loop-preserved g c =
     let more = power_suc L c.args.x c.loop.counter in
     let order = L.ring.mul_comm c.loop.product c.args.x in
     rw add-one (cc)
-
-pub returns : goal.returns
-returns g c = let all : c.loop.counter ≡ c.args.e = omega arith in cc

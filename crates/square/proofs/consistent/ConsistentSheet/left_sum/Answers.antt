@@ -17,16 +17,16 @@ overflow_sub-r g c =
 pub returns-then-r-stride-eq0 : goal.returns-then-r-stride-eq0
 returns-then-r-stride-eq0 g c =
     let O = g.F.Field.ops in
-    let h = c.args.self.now.head.now in
+    let s = c.args.self.now in
     let r = c.args.r in
-    let rest : r % stride (shape_of h) ≡ 0 = rw c.stride_of-stride.ensures.is at c.if-r-stride-eq0.true in
-    let is = left_public g.met.F.Field.laws (shape_of h) (head_fits h) (position O c.args.self.now.used.now) (coefficient O c.args.self.now.values.now) (position O []) r rest in
+    let rest : r % stride (shape_of s.head.now) ≡ 0 = rw c.stride_of-stride.ensures.is at c.if-r-stride-eq0.true in
+    let is = left_public g.met.F.Field.laws (shape_of s.head.now) (head_fits s.head.now) (position O s.used.now) (coefficient O s.values.now) (position O []) r rest in
     cc
 
 pub returns-else-r-stride-eq0 : goal.returns-else-r-stride-eq0
 returns-else-r-stride-eq0 g c =
     let O = g.F.Field.ops in
-    let h = c.args.self.now.head.now in
+    let s = c.args.self.now in
     let r = c.args.r in
-    let is = left_other g.met.F.Field.laws (shape_of h) (head_fits h) (position O c.args.self.now.used.now) (coefficient O c.args.self.now.values.now) r (rw c.stride_of-stride.ensures.is at c.if-r-stride-eq0.false) in
+    let is = left_other g.met.F.Field.laws (shape_of s.head.now) (head_fits s.head.now) (position O s.used.now) (coefficient O s.values.now) r (rw c.stride_of-stride.ensures.is at c.if-r-stride-eq0.false) in
     cc

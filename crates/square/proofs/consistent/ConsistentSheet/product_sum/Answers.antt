@@ -9,21 +9,19 @@ use Rattle.square.proofs.consistent.ConsistentSheet.product_sum.Goals as goal
 
 pub returns-then-x-rows : goal.returns-then-x-rows
 returns-then-x-rows g c =
-    let O = g.F.Field.ops in
-    let h = c.args.self.now.head.now in
-    c.zero.ensures
-    ∙ sym (left_past g.met.F.Field.laws (shape_of h) (head_fits h) (position O c.args.self.now.used.now) (coefficient O c.args.self.now.values.now) c.args.x (omega arith))
+    let s = c.args.self.now in
+    c.zero.ensures ∙ sym (left_past g.met.F.Field.laws _ (head_fits s.head.now) (position g.F.Field.ops s.used.now) _ c.args.x (omega arith))
 
 pub returns-then-x-eq0 : goal.returns-then-x-eq0
 returns-then-x-eq0 g c =
     let O = g.F.Field.ops in
-    let h = c.args.self.now.head.now in
-    let is = left_difference g.met.F.Field.laws (shape_of h) (head_fits h) (position O c.args.self.now.used.now) (coefficient O c.args.self.now.values.now) c.args.self.now.one c.args.x (omega arith) c.if-x-eq0.true in
+    let s = c.args.self.now in
+    let is = left_difference g.met.F.Field.laws (shape_of s.head.now) (head_fits s.head.now) (position O s.used.now) (coefficient O s.values.now) s.one c.args.x (omega arith) c.if-x-eq0.true in
     cc
 
 pub returns-else-x-eq0 : goal.returns-else-x-eq0
 returns-else-x-eq0 g c =
     let O = g.F.Field.ops in
-    let h = c.args.self.now.head.now in
-    let is = left_both g.met.F.Field.laws (shape_of h) (head_fits h) (position O c.args.self.now.used.now) (coefficient O c.args.self.now.values.now) c.args.self.now.one c.args.x (omega arith) c.if-x-eq0.false in
+    let s = c.args.self.now in
+    let is = left_both g.met.F.Field.laws (shape_of s.head.now) (head_fits s.head.now) (position O s.used.now) (coefficient O s.values.now) s.one c.args.x (omega arith) c.if-x-eq0.false in
     cc

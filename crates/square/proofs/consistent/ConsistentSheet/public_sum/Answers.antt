@@ -11,10 +11,7 @@ use Rattle.square.proofs.consistent.ConsistentSheet.public_sum.Goals.{then-t-eq0
 
 pub returns-then-t-publics : goal.returns-then-t-publics
 returns-then-t-publics g c =
-    let O = g.F.Field.ops in
-    let h = c.args.self.now.head.now in
-    c.zero.ensures
-    ∙ sym (left_none g.met.F.Field.laws (shape_of h) (head_fits h) (position O []) (coefficient O c.args.self.now.values.now) c.args.t (omega arith))
+    c.zero.ensures ∙ sym (left_none g.met.F.Field.laws _ (head_fits c.args.self.now.head.now) (position g.F.Field.ops []) _ c.args.t (omega arith))
 
 pub returns : goal.returns
 returns g c =

@@ -12,22 +12,22 @@ pub returns-then-w-wires : goal.returns-then-w-wires
 returns-then-w-wires g c =
     let O = g.F.Field.ops in
     let vs = c.args.self.now.values.now in
-    sym c.index-self-w.is
-    ∙ get_or_read vs c.args.w _ (omega arith) c.index-self-w.is O.zero
-    ∙ sym (extended_own O (shape_of c.args.self.now.head.now) (position O c.args.self.now.used.now) (coefficient O vs) c.args.w (omega arith))
+    sym c.index-self-w.is ∙ get_or_read vs c.args.w _ (omega arith) c.index-self-w.is O.zero ∙ sym (extended_own O _ _ (coefficient O vs) c.args.w (omega arith))
 
 pub returns-then-t-publics : goal.returns-then-t-publics
 returns-then-t-publics g c =
     let O = g.F.Field.ops in
-    let h = c.args.self.now.head.now in
+    let s = c.args.self.now in
+    let h = s.head.now in
     let place : c.args.w - c.wires-wires.result ≡ c.args.w - h.wires = omega arith in
-    let is = extended_public g.met.F.Field.laws (shape_of h) (head_fits h) (position O c.args.self.now.used.now) (position O []) (coefficient O c.args.self.now.values.now) c.args.w (omega arith) (omega arith) in
+    let is = extended_public g.met.F.Field.laws (shape_of h) (head_fits h) (position O s.used.now) (position O []) (coefficient O s.values.now) c.args.w (omega arith) (omega arith) in
     cc
 
 pub returns : goal.returns
 returns g c =
     let O = g.F.Field.ops in
-    let h = c.args.self.now.head.now in
+    let s = c.args.self.now in
+    let h = s.head.now in
     let row : c.args.w - c.wires-wires.result - 2 * c.publics-publics.result ≡ c.args.w - h.wires - 2 * h.publics = omega arith in
-    let is = extended_row O (shape_of h) (position O c.args.self.now.used.now) (coefficient O c.args.self.now.values.now) c.args.w (omega arith) (omega arith) in
+    let is = extended_row O (shape_of h) (position O s.used.now) (coefficient O s.values.now) c.args.w (omega arith) (omega arith) in
     cc

@@ -4,7 +4,7 @@ use Rattle.std.proofs.lemmas.List.{get_or_read}
 use Rattle.std.proofs.lemmas.List.Edits.{fill_by_more}
 use Rattle.transform.specs.Polynomial.{coefficient}
 use Rattle.transform.proofs.Tables.{is_table}
-use Rattle.square.proofs.public.repeat.Goals as goal
+use Rattle.square.proofs.public.repeat_first.Goals as goal
 
 pub loop-e-preserved : goal.loop-e-preserved
 loop-e-preserved g c =
