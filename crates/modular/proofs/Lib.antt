@@ -1,2 +1,5 @@
+pub mod Laws
 pub mod Laws97
-pub mod Tables97
+pub mod Laws12289
+pub mod Roots
+pub mod ByLogs

@@ -1,5 +1,8 @@
 pub mod Residues
+pub mod Residue
+pub mod Arithmetic
+pub mod Modular
 pub mod Field97
 pub mod Laws97
-pub mod Modular
-pub mod Below
+pub mod Field12289
+pub mod Laws12289

@@ -1,22 +1,14 @@
 -- The laws of a field for arithmetic modulo p, once for any p.
-use Rattle.std.specs.Prelude.{◌≡◌, ℕ, ◌+◌, ◌-◌, ◌*◌, ◌/◌, ◌%◌, ◌^◌, ◌<◌, [], ◌∷◌, ◌==◌}
+use Rattle.std.specs.Prelude.{◌≡◌, ℕ, ◌+◌, ◌-◌, ◌*◌, ◌%◌, ◌^◌, ◌<◌, [], ◌∷◌, ◌==◌}
 use Rattle.std.proofs.Math.Path.{sym, ap}
 use Rattle.std.proofs.Common.{◌∙◌, add_comm, add_assoc, add-zero, mul_comm, mul_assoc, mul-add, mul-one, add-sub_of_le, le_of_lt, add-one, arith, eq-eqb}
-use Rattle.std.proofs.Math.Nat.{mod-add-mod, add-mod-mod, add-mod, mod-eq_of_lt, mod_self, mod-add-div, pow-zero, pow-succ', add-mul-mod_self_left}
+use Rattle.std.proofs.Math.Nat.{mod-add-mod, add-mod-mod, add-mod, mod-eq_of_lt, mod_self, pow-zero, pow-succ'}
+use Rattle.std.proofs.lemmas.Nat.{mul-mod_first, mul-mod_second}
 use Rattle.std.proofs.Math.Decide.{ℕ_discrete}
 use Rattle.std.proofs.lemmas.Bool.{ne_eqb}
 use Rattle.field.specs.Operations.{Operations, sum, power, ones, decided}
 use Rattle.field.specs.Laws.{Ring, Laws}
 use Rattle.modular.specs.Residues.{Residues, same_by}
-
-pub mul_mod_mod : (a b p : ℕ) → (a * (b % p)) % p ≡ (a * b) % p
-mul_mod_mod a b p =
-    let split : a * b ≡ a * (b % p) + p * (a * (b / p)) = omega (arith, ap (λ (n : ℕ). a * n) (sym (mod-add-div b p))) in
-    sym (ap (λ (n : ℕ). n % p) split ∙ add-mul-mod_self_left (a * (b % p)) p (a * (b / p)))
-
-pub mod_mul_mod : (a b p : ℕ) → ((a % p) * b) % p ≡ (a * b) % p
-mod_mul_mod a b p =
-    ap (λ (n : ℕ). n % p) (mul_comm (a % p) b) ∙ mul_mod_mod b a p ∙ ap (λ (n : ℕ). n % p) (mul_comm b a)
 
 module _ {p : ℕ} {R : Type 0} {value : R → ℕ} {O : Operations R} (m : Residues p value O) where
   open O use {zero, one, add, neg, mul, inverse, top, adicity}
@@ -30,7 +22,7 @@ module _ {p : ℕ} {R : Type 0} {value : R → ℕ} {O : Operations R} (m : Resi
   power_is x (ℕ.suc n) =
       m.mul_is x (power O x n)
       ∙ ap (λ (k : ℕ). (value x * k) % p) (power_is x n)
-      ∙ mul_mod_mod (value x) (value x ^ n) p
+      ∙ mul-mod_second (value x) (value x ^ n) p
       ∙ ap (λ (k : ℕ). k % p) (sym (pow-succ' (value x) n))
 
   -- the n-fold sum of one is n modulo p
@@ -92,16 +84,16 @@ module _ {p : ℕ} {R : Type 0} {value : R → ℕ} {O : Operations R} (m : Resi
     mul_assoc = λ x y z. m.only _ _
         (m.mul_is (mul x y) z
         ∙ ap (λ (n : ℕ). (n * value z) % p) (m.mul_is x y)
-        ∙ mod_mul_mod (value x * value y) (value z) p
+        ∙ mul-mod_first (value x * value y) (value z) p
         ∙ ap (λ (n : ℕ). n % p) (mul_assoc (value x) (value y) (value z))
-        ∙ sym (mul_mod_mod (value x) (value y * value z) p)
+        ∙ sym (mul-mod_second (value x) (value y * value z) p)
         ∙ ap (λ (n : ℕ). (value x * n) % p) (sym (m.mul_is y z))
         ∙ sym (m.mul_is x (mul y z)));
     mul_one = λ x. m.only _ _ (m.mul_is x one ∙ ap (λ (n : ℕ). (value x * n) % p) m.one_is ∙ ap (λ (n : ℕ). n % p) (mul-one (value x)) ∙ small x);
     mul_add = λ x y z. m.only _ _
         (m.mul_is x (add y z)
         ∙ ap (λ (n : ℕ). (value x * n) % p) (m.add_is y z)
-        ∙ mul_mod_mod (value x) (value y + value z) p
+        ∙ mul-mod_second (value x) (value y + value z) p
         ∙ ap (λ (n : ℕ). n % p) (mul-add (value x) (value y) (value z))
         ∙ add-mod (value x * value y) (value x * value z) p
         ∙ ap (λ (n : ℕ). (n + (value x * value z) % p) % p) (sym (m.mul_is x y))

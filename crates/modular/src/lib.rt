@@ -1,4 +1,7 @@
-// Prime fields that reckon modulo their prime.
+// Prime fields: the numbers below a prime.
 #![tactic(auto)]
 
+pub mod f12289;
 pub mod f97;
+pub mod prime;
+pub mod residue;

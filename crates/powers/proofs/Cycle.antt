@@ -1,9 +1,8 @@
 -- The powers of g modulo m, where the n-th is 1: exponents count modulo n, so products and inverses go by exponents.
-use Rattle.std.proofs.Common.{◌≡◌, ℕ, zero, suc, ◌+◌, ◌-◌, ◌*◌, ◌/◌, ◌%◌, ◌^◌, ◌<◌, ◌≤◌, sym, ap, ◌∙◌, inl, inr, mul_assoc, eq-or-lt_of_le, pow-suc, mul-zero, mul-one, mul-suc, mul_right_comm, arith, pow-add}
-use mathlib.Core.Logic.{dite}
-use native.Mathlib.Nat.{pow-zero, mod-add-div, add-mod_left}
-use native.Mathlib.Decide.{dec_le}
-use Rattle.modular.specs.Modular.{mul_mod_mod, mod_mul_mod}
+use Rattle.std.proofs.Common.{◌≡◌, ℕ, zero, suc, ◌+◌, ◌-◌, ◌*◌, ◌/◌, ◌%◌, ◌^◌, ◌<◌, ◌≤◌, sym, ap, ◌∙◌, inl, inr, mul-zero, mul-one, mul-suc, eq-or-lt_of_le, pow-suc, arith, pow-add}
+use Rattle.std.proofs.Math.Nat.{pow-zero, mod-add-div, add-mod_left}
+use Rattle.std.proofs.lemmas.Nat.{mul-mod_first, mul-mod_second, pow-mod}
+use Rattle.std.proofs.lemmas.Bool.{cases_lt}
 
 pub pow_mul : (b m n : ℕ) → (b ^ m) ^ n ≡ b ^ (m * n)
 pow_mul b m zero = pow-zero (b ^ m) ∙ sym (ap (λ (x : ℕ). b ^ x) (mul-zero m) ∙ pow-zero b)
@@ -13,16 +12,6 @@ pow_mul b m (suc n) =
     ∙ sym (pow-add b (m * n) m)
     ∙ ap (λ (x : ℕ). b ^ x) (sym (mul-suc m n))
 
--- the base of a power may be reduced
-pub mod_pow : (b m e a : ℕ) → (a * (b % m) ^ e) % m ≡ (a * b ^ e) % m
-mod_pow b m zero a = ap (λ (x : ℕ). (a * x) % m) (pow-zero (b % m) ∙ sym (pow-zero b))
-mod_pow b m (suc e) a =
-    ap (λ (x : ℕ). x % m) (ap (λ (x : ℕ). a * x) (pow-suc (b % m) e) ∙ sym (mul_assoc a ((b % m) ^ e) (b % m)))
-    ∙ mul_mod_mod (a * (b % m) ^ e) b m
-    ∙ ap (λ (x : ℕ). x % m) (mul_right_comm a ((b % m) ^ e) b)
-    ∙ mod_pow b m e (a * b)
-    ∙ ap (λ (x : ℕ). x % m) (mul_right_comm a b (b ^ e) ∙ mul_assoc a (b ^ e) b ∙ ap (λ (x : ℕ). a * x) (sym (pow-suc b e)))
-
 one_pow : (e : ℕ) → 1 ^ e ≡ 1
 one_pow zero = pow-zero 1
 one_pow (suc e) = pow-suc 1 e ∙ mul-one (1 ^ e) ∙ one_pow e
@@ -30,9 +19,12 @@ one_pow (suc e) = pow-suc 1 e ∙ mul-one (1 ^ e) ∙ one_pow e
 -- an exponent taken apart by its remainder, with the large part reduced
 pub split_pow : (g n m k : ℕ) → (g ^ (k % n) * (g ^ n % m) ^ (k / n)) % m ≡ g ^ k % m
 split_pow g n m k =
-    mod_pow (g ^ n) m (k / n) (g ^ (k % n))
+    let low : ℕ = g ^ (k % n) in
+    sym (mul-mod_second low ((g ^ n % m) ^ (k / n)) m)
+    ∙ ap (λ (x : ℕ). (low * x) % m) (pow-mod (g ^ n) (k / n) m)
+    ∙ mul-mod_second low ((g ^ n) ^ (k / n)) m
     ∙ ap (λ (x : ℕ). x % m)
-    (ap (λ (x : ℕ). g ^ (k % n) * x) (pow_mul g n (k / n)) ∙ sym (pow-add g (k % n) (n * (k / n))) ∙ ap (λ (x : ℕ). g ^ x) (mod-add-div k n))
+    (ap (λ (x : ℕ). low * x) (pow_mul g n (k / n)) ∙ sym (pow-add g (k % n) (n * (k / n))) ∙ ap (λ (x : ℕ). g ^ x) (mod-add-div k n))
 
 module _ (g n m : ℕ) (turn : g ^ n % m ≡ 1) where
   pub cycle : (k : ℕ) → g ^ (k % n) % m ≡ g ^ k % m
@@ -42,7 +34,7 @@ module _ (g n m : ℕ) (turn : g ^ n % m ≡ 1) where
       ∙ split_pow g n m k
 
   joined : (x y : ℕ) → ((g ^ x % m) * (g ^ y % m)) % m ≡ g ^ (x + y) % m
-  joined x y = mul_mod_mod (g ^ x % m) (g ^ y) m ∙ mod_mul_mod (g ^ x) (g ^ y) m ∙ ap (λ (z : ℕ). z % m) (sym (pow-add g x y))
+  joined x y = mul-mod_second (g ^ x % m) (g ^ y) m ∙ mul-mod_first (g ^ x) (g ^ y) m ∙ ap (λ (z : ℕ). z % m) (sym (pow-add g x y))
 
   pub product : (x y a b : ℕ) → g ^ x % m ≡ a → g ^ y % m ≡ b → g ^ (x + y) % m ≡ (a * b) % m
   product x y a b p q = sym (joined x y) ∙ ap (λ (z : ℕ). (z * (g ^ y % m)) % m) p ∙ ap (λ (z : ℕ). (a * z) % m) q
@@ -71,5 +63,4 @@ module _ (g n m : ℕ) (turn : g ^ n % m ≡ 1) where
         ]
 
     pub distinct : (x y : ℕ) → x < n → y < n → g ^ x % m ≡ g ^ y % m → x ≡ y
-    distinct x y h k e =
-        dite (dec_le x y) (λ l. ordered x y l k e) (λ l. let l' : y ≤ x = omega arith in sym (ordered y x l' h (sym e)))
+    distinct x y h k e = elim (cases_lt y x) [ inl l ↦ sym (ordered y x (omega arith) h (sym e)) | inr l ↦ ordered x y l k e ]

@@ -1,3 +1,4 @@
+pub mod Numbers
 pub mod Cycle
 pub mod Walk
 pub mod Rules

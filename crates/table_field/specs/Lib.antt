@@ -1,2 +1,0 @@
-pub mod Field12289
-pub mod Laws12289
