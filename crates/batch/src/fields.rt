@@ -4,9 +4,9 @@ use crate::kind::Question;
 use crate::{assignment, program, survey, values};
 use field::file_field::FileField;
 use modular::f97::F97;
+use modular::f12289::F12289;
 use quadratic::quadratic::Quadratic;
 use std::io;
-use table_field::f12289::F12289;
 
 fn answer_over<F: FileField>(
     rt: &HostRuntime,

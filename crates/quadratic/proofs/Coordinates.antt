@@ -71,4 +71,4 @@ module _ {F : Type 0} (of : F → List ℕ) (width : ℕ) (complete : (x : F) �
 -- the width is even, so never 1
 pub never_lone : (w : ℕ) (r : Option ℕ) (P : ℕ → Type 0) → IfSome r (λ c. 2 * w ≡ 1 → P c)
 never_lone w None P = tt
-never_lone w (Some c) P = λ e. let z : ⊥ = omega arith in absurd z
+never_lone w (Some c) P = λ e. absurd (omega arith)

@@ -14,7 +14,7 @@ pub interleave_even : (xs ys : List ℕ) → length xs ≡ length ys → (k : �
 unfolding interleave
 interleave_even [] [] h k = refl
 interleave_even [] (y ∷ ys) h k = refl
-interleave_even (x ∷ xs) [] h k = let z : ⊥ = omega arith in absurd z
+interleave_even (x ∷ xs) [] h k = absurd (omega arith)
 interleave_even (x ∷ xs) (y ∷ ys) h ℕ.zero = refl
 interleave_even (x ∷ xs) (y ∷ ys) h (suc k) =
     let e : 2 * suc k ≡ suc (suc (2 * k)) = omega arith in
@@ -23,8 +23,8 @@ interleave_even (x ∷ xs) (y ∷ ys) h (suc k) =
 pub interleave_odd : (xs ys : List ℕ) → length xs ≡ length ys → (k : ℕ) → get_or (interleave xs ys) (2 * k + 1) 0 ≡ get_or ys k 0
 unfolding interleave
 interleave_odd [] [] h k = refl
-interleave_odd [] (y ∷ ys) h k = let z : ⊥ = omega arith in absurd z
-interleave_odd (x ∷ xs) [] h k = let z : ⊥ = omega arith in absurd z
+interleave_odd [] (y ∷ ys) h k = absurd (omega arith)
+interleave_odd (x ∷ xs) [] h k = absurd (omega arith)
 interleave_odd (x ∷ xs) (y ∷ ys) h ℕ.zero = refl
 interleave_odd (x ∷ xs) (y ∷ ys) h (suc k) =
     let e : 2 * suc k + 1 ≡ suc (suc (2 * k + 1)) = omega arith in
@@ -33,13 +33,13 @@ interleave_odd (x ∷ xs) (y ∷ ys) h (suc k) =
 pub interleave_injective : (xs ys us vs : List ℕ) → length xs ≡ length ys → length us ≡ length vs → interleave xs ys ≡ interleave us vs → (xs ≡ us) × (ys ≡ vs)
 unfolding interleave
 interleave_injective [] [] [] [] h k e = (refl, refl)
-interleave_injective [] [] [] (v ∷ vs) h k e = let z : ⊥ = omega arith in absurd z
-interleave_injective [] [] (u ∷ us) [] h k e = let z : ⊥ = omega arith in absurd z
-interleave_injective [] [] (u ∷ us) (v ∷ vs) h k e = let z : ◌≡◌ {A = ℕ} 0 1 = cc in let w : ⊥ = omega arith in absurd w
-interleave_injective [] (y ∷ ys) us vs h k e = let z : ⊥ = omega arith in absurd z
-interleave_injective (x ∷ xs) [] us vs h k e = let z : ⊥ = omega arith in absurd z
-interleave_injective (x ∷ xs) (y ∷ ys) [] vs h k e = let z : ◌≡◌ {A = ℕ} 0 1 = cc in let w : ⊥ = omega arith in absurd w
-interleave_injective (x ∷ xs) (y ∷ ys) (u ∷ us) [] h k e = let z : ⊥ = omega arith in absurd z
+interleave_injective [] [] [] (v ∷ vs) h k e = absurd (omega arith)
+interleave_injective [] [] (u ∷ us) [] h k e = absurd (omega arith)
+interleave_injective [] [] (u ∷ us) (v ∷ vs) h k e = cc
+interleave_injective [] (y ∷ ys) us vs h k e = absurd (omega arith)
+interleave_injective (x ∷ xs) [] us vs h k e = absurd (omega arith)
+interleave_injective (x ∷ xs) (y ∷ ys) [] vs h k e = cc
+interleave_injective (x ∷ xs) (y ∷ ys) (u ∷ us) [] h k e = absurd (omega arith)
 interleave_injective (x ∷ xs) (y ∷ ys) (u ∷ us) (v ∷ vs) h k e =
     let p : x ≡ u = cc in
     let q : y ≡ v = cc in

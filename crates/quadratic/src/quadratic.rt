@@ -1,5 +1,5 @@
 // a + bθ, where θ² is the top of the field below. In a file of its own, since specs/ names it.
-#[derive(Clone, Copy)]
+#[derive(Clone, Copy, PartialEq, Eq, Debug)]
 pub struct Quadratic<F> {
     pub a: F,
     pub b: F,

@@ -5,10 +5,8 @@ use Rattle.refusal.specs.declared.refused.Refused.{Refused}
 use Rattle.field.specs.Operations.{Operations}
 use Rattle.frames.specs.Little.{Bytes}
 use Rattle.frames.specs.Faults.{check, told}
-use Rattle.modular.specs.Field97.{ops97}
-use Rattle.modular.specs.declared.f97.F97.{F97}
-use Rattle.table_field.specs.Field12289.{ops12289}
-use Rattle.table_field.specs.declared.f12289.F12289.{F12289}
+use Rattle.modular.specs.Field97.{F97, ops97}
+use Rattle.modular.specs.Field12289.{F12289, ops12289}
 use Rattle.quadratic.specs.Doubled.{doubled}
 use Rattle.quadratic.specs.Interleave.{interleave}
 use Rattle.quadratic.specs.declared.quadratic.Quadratic.{Quadratic}

@@ -7,9 +7,9 @@ use crate::circuit::report_circuit;
 use constraints::reader::RowReader;
 use field::field::Field;
 use modular::f97::F97;
+use modular::f12289::F12289;
 use quadratic::quadratic::Quadratic;
 use sheet::entry::Entry;
-use table_field::f12289::F12289;
 
 // The text over a field, with tables of the largest lengths. Generic code cannot lend arrays of its own, so this is written for each.
 macro_rules! report_over {

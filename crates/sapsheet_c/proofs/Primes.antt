@@ -7,7 +7,7 @@ use Rattle.refusal.specs.declared.reason.Refusal.TheVariants.{OtherPrime}
 use Rattle.refusal.specs.declared.refused.Refused.{Refused}
 use Rattle.field.specs.Operations.{Operations}
 use Rattle.modular.specs.Field97.{ops97}
-use Rattle.table_field.specs.Field12289.{ops12289}
+use Rattle.modular.specs.Field12289.{ops12289}
 use Rattle.constraints.specs.Opened.{opened}
 use Rattle.constraints.specs.Circuit.{Circuit, Encodes as EncodesCircuit}
 use Rattle.constraints.specs.Reader.{Starts, Stood}

@@ -6,8 +6,8 @@ use Rattle.field.specs.Operations.{Operations, ones}
 use Rattle.modular.specs.Field97.{ops97}
 use Rattle.modular.specs.Modular.{ones_distinct}
 use Rattle.modular.proofs.Laws97.{residues97}
-use Rattle.table_field.specs.Field12289.{ops12289}
-use Rattle.table_field.specs.Laws12289.{residues12289}
+use Rattle.modular.specs.Field12289.{ops12289}
+use Rattle.modular.proofs.Laws12289.{residues12289}
 use Rattle.frames.specs.Little.{Bytes}
 use Rattle.frames.specs.Faults.{then}
 use Rattle.sheet.specs.Model.{Model}

@@ -4,7 +4,7 @@ use Rattle.std.specs.List.{AllByRecursion}
 use Rattle.refusal.specs.Due.{Due, unless}
 use Rattle.field.specs.Operations.{Operations, ones}
 use Rattle.modular.specs.Field97.{ops97}
-use Rattle.table_field.specs.Field12289.{ops12289}
+use Rattle.modular.specs.Field12289.{ops12289}
 use Rattle.frames.specs.Little.{Bytes}
 use Rattle.frames.specs.Faults.{then}
 use Rattle.sheet.specs.Shape.{n}

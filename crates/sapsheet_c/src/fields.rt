@@ -1,14 +1,14 @@
 // The answer over each of the two fields, whose tables and buffers stand on the stack: code for any field cannot know that they fit.
 ghost use Rattle.modular.specs.Field97.{ops97};
-ghost use Rattle.table_field.specs.Field12289.{ops12289};
+ghost use Rattle.modular.specs.Field12289.{ops12289};
 ghost use Rattle.sapsheet_c.specs.Parts.{AnswersReader};
 
 use crate::answer::answer_reader;
 use constraints::reader::RowReader;
 use field::field::Field;
 use modular::f97::F97;
+use modular::f12289::F12289;
 use sheet::entry::Entry;
-use table_field::f12289::F12289;
 
 // The largest sizes: 2048 entries, 2048 wires, n = 2048 and M = 2048 + 2 · 256 + 512, so that M + 4 n is 11264.
 macro_rules! answer_over {

@@ -3,6 +3,7 @@ use crate::print::{show, tell};
 use field::field::Field;
 use field::file_field::FileField;
 use modular::f97::F97;
+use modular::f12289::F12289;
 use quadratic::quadratic::Quadratic;
 use refusal::refused::Refused;
 use runs::survey::survey;
@@ -10,7 +11,6 @@ use sheet::call::Call;
 use sheet::counts::Counts;
 use sheet::entry::Entry;
 use std::io;
-use table_field::f12289::F12289;
 
 // One row: (a x) x = c, with x on wire 1.
 fn one_row<F: FileField>(a: F, x: F, c: F) -> [Call<F>; 4] {

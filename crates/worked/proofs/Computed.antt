@@ -1,7 +1,6 @@
 -- Elements of the field of 97 by their numbers, which the checker computes.
 use Rattle.std.proofs.Common.{◌≡◌, ℕ, suc, ◌<◌, List, [], ◌∷◌, map, length, get_or, drop, sym, refl, ap, ◌∙◌, ap₂, arith}
-use Rattle.modular.specs.Field97.{only97, element97}
-use Rattle.modular.specs.declared.f97.F97.{F97}
+use Rattle.modular.specs.Field97.{F97, only97, element97}
 use Rattle.transform.specs.Polynomial.{table}
 use Rattle.transform.proofs.Tables.{get_or_table}
 

@@ -1,8 +1,7 @@
 -- A quotient and a public polynomial of a sheet over the field of 97, and no other, from numbers that the checker computes.
 use Rattle.std.proofs.Common.{◌≡◌, ℕ, ◌+◌, ◌-◌, ◌*◌, ◌%◌, ◌≤◌, List, length, sym, ap, ◌∙◌, subst}
 use Rattle.field.specs.Operations.{power, ones}
-use Rattle.modular.specs.Field97.{ops97}
-use Rattle.modular.specs.declared.f97.F97.{F97}
+use Rattle.modular.specs.Field97.{F97, ops97}
 use Rattle.modular.proofs.Laws97.{laws97}
 use Rattle.transform.specs.Polynomial.{table, coefficient, value_at, product_at, Root, Takes, Quotient}
 use Rattle.transform.proofs.Polynomials.{takes_unique, values_quotient}

@@ -3,7 +3,7 @@ use Rattle.std.proofs.Common.{◌≡◌, ℕ, refl, ap, arith, lit<, lit≤}
 use Rattle.field.specs.Operations.{power, root_of_order}
 use Rattle.modular.specs.Field97.{only97}
 use Rattle.quadratic.specs.Doubled.{both}
-use Rattle.table_field.specs.Field12289.{only12289}
+use Rattle.modular.specs.Field12289.{only12289}
 use Rattle.worked.specs.Worked.{WorkedFields}
 
 pub fields : WorkedFields

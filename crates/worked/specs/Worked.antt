@@ -1,11 +1,10 @@
 -- Sheets and elements worked out: what the definitions that the calls' contracts cite come to, in numbers.
 use Rattle.std.specs.Prelude.{◌≡◌, ℕ, ◌<◌, ◌≤◌, List, [], ◌∷◌, ◌++◌, map, Some, None}
 use Rattle.field.specs.Operations.{Operations, root_of_order}
-use Rattle.modular.specs.Field97.{element97, ops97}
-use Rattle.modular.specs.declared.f97.F97.{F97}
+use Rattle.modular.specs.Field97.{F97, element97, ops97}
 use Rattle.quadratic.specs.Doubled.{pair, doubled}
 use Rattle.quadratic.specs.declared.quadratic.Quadratic.{Quadratic}
-use Rattle.table_field.specs.Field12289.{element12289, ops12289}
+use Rattle.modular.specs.Field12289.{element12289, ops12289}
 use Rattle.transform.specs.Polynomial.{table, coefficient}
 use Rattle.sheet.specs.Shape.{Shape, n}
 use Rattle.sheet.specs.Rules.{make_due}

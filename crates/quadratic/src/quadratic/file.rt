@@ -17,11 +17,9 @@ impl<F: FileField> FileField for Quadratic<F> {
         F::prime()
     }
 
-    fn element(v: u64) -> Option<Quadratic<F>> {
-        match F::element(v) {
-            Some(a) => Some(Quadratic::new(a, F::zero())),
-            None => None,
-        }
+    fn element(v: u64) -> Option<Self> {
+        let a = F::element(v)?;
+        Some(Self::new(a, F::zero()))
     }
 
     fn number(self) -> Option<u64> {

@@ -7,10 +7,10 @@ use crate::quadratic::Quadratic;
 use field::field::Field;
 
 impl<F> Quadratic<F> {
-    pub fn new(a: F, b: F) -> Quadratic<F>
+    pub fn new(a: F, b: F) -> Self
         ensures { result ≡ pair a b }
     {
-        Quadratic { a, b }
+        Self { a, b }
     }
 }
 
@@ -19,62 +19,53 @@ impl<F: Field> Field for Quadratic<F> {
 
     ghost laws = { doubled_laws F.Field.laws };
 
-    fn zero() -> Quadratic<F> {
-        Quadratic::new(F::zero(), F::zero())
+    fn zero() -> Self {
+        Self::new(F::zero(), F::zero())
     }
 
-    fn one() -> Quadratic<F> {
-        Quadratic::new(F::one(), F::zero())
+    fn one() -> Self {
+        Self::new(F::one(), F::zero())
     }
 
-    fn add(self, other: Quadratic<F>) -> Quadratic<F> {
-        Quadratic::new(self.a.add(other.a), self.b.add(other.b))
+    fn add(self, other: Self) -> Self {
+        Self::new(self.a.add(other.a), self.b.add(other.b))
     }
 
-    fn neg(self) -> Quadratic<F> {
-        Quadratic::new(self.a.neg(), self.b.neg())
+    fn neg(self) -> Self {
+        Self::new(self.a.neg(), self.b.neg())
     }
 
-    fn mul(self, other: Quadratic<F>) -> Quadratic<F> {
+    fn mul(self, other: Self) -> Self {
         let a = self.a.mul(other.a).add(F::top().mul(self.b.mul(other.b)));
         let b = self.a.mul(other.b).add(self.b.mul(other.a));
-        Quadratic::new(a, b)
+        Self::new(a, b)
     }
 
     // (a − bθ) / (a² − top b²): the norm is zero only at zero, since top is no square.
-    fn inverse(self) -> Option<Quadratic<F>> {
+    fn inverse(self) -> Option<Self> {
         let norm = self
             .a
             .mul(self.a)
             .add(F::top().mul(self.b.mul(self.b)).neg());
-        match norm.inverse() {
-            Some(i) => Some(Quadratic::new(self.a.mul(i), self.b.mul(i).neg())),
-            None => None,
-        }
+        let i = norm.inverse()?;
+        Some(Self::new(self.a.mul(i), self.b.mul(i).neg()))
     }
 
-    fn same(self, other: Quadratic<F>) -> bool {
+    fn same(self, other: Self) -> bool {
         self.a.same(other.a) && self.b.same(other.b)
     }
 
     // θ
-    fn top() -> Quadratic<F> {
-        Quadratic::new(F::zero(), F::one())
+    fn top() -> Self {
+        Self::new(F::zero(), F::one())
     }
 
     // The roots of the field below, and θ for the one order more.
-    fn root(e: u32) -> Option<Quadratic<F>> {
-        match F::root(e) {
-            Some(w) => Some(Quadratic::new(w, F::zero())),
-            None => {
-                if e == 0 {
-                    return None;
-                }
-                match F::root(e - 1) {
-                    Some(_) => Some(Quadratic::top()),
-                    None => None,
-                }
-            }
+    fn root(e: u32) -> Option<Self> {
+        if let Some(w) = F::root(e) {
+            return Some(Self::new(w, F::zero()));
         }
+        F::root(e.checked_sub(1)?)?;
+        Some(Self::top())
     }
 }

@@ -1,6 +1,6 @@
 use Rattle.std.proofs.Common.{None, refl}
 use Rattle.modular.specs.Field97.{ops97}
-use Rattle.table_field.specs.Field12289.{ops12289}
+use Rattle.modular.specs.Field12289.{ops12289}
 use Rattle.sapsheet_c.proofs.Primes.{opened_refused, opened_read, over_97, over_12289, refused_97}
 use Rattle.sapsheet_c.proofs.sapsheet_quotient.Goals as goal
 

@@ -8,9 +8,10 @@ returns-in-Some g c =
     let made = root_below g.met.F.Field.laws c.args.e told.0 in
     (omega arith, let w = told.1 in cc)
 
-pub returns-in-Some-root : goal.returns-in-Some-root
-returns-in-Some-root g c =
-    let above = c.in-None.ensures in
-    let below = c.in-Some-root.ensures.0 in
+pub returns : goal.returns
+returns g c =
+    let above = c.in_default.ensures in
+    let before = c.in_ok-checked_sub.ensures in
+    let below = c.in_ok-root.ensures.0 in
     let made = root_θ g.met.F.Field.laws c.args.e (omega arith) in
     (omega arith, cc)
