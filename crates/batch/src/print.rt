@@ -1,20 +1,6 @@
 // How answers, elements and bytes are printed.
 use field::file_field::FileField;
-use refusal::refused::Refused;
 use std::fmt;
-
-// What a call that answers nothing else answered.
-#[derive(Clone, Copy)]
-pub(crate) struct Answer(pub(crate) Result<(), Refused>);
-
-impl fmt::Display for Answer {
-    fn fmt<W: fmt::Write>(&self, f: &mut fmt::Formatter<W>) -> fmt::Result {
-        match self.0 {
-            Ok(()) => write!(f, "granted"),
-            Err(e) => write!(f, "{e}"),
-        }
-    }
-}
 
 // Elements, each behind a space, by their coordinates, which commas join: no field here has more than four.
 #[derive(Clone, Copy)]

@@ -1,9 +1,10 @@
 // A list of calls over a sheet, and what is read from it in the end.
 use crate::calls::call;
 use crate::case::Case;
-use crate::print::{Answer, Elements};
+use crate::print::Elements;
 use field::field::Field;
 use field::file_field::FileField;
+use refusal::answer::Answer;
 use refusal::refused::Refused;
 use runs::survey::survey;
 use sheet::call::Call;

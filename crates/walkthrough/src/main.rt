@@ -4,6 +4,7 @@
 mod fields;
 mod print;
 mod steps;
+mod told;
 mod whole;
 
 use std::io;

@@ -1,33 +1,34 @@
 // How answers and elements are printed.
 use field::file_field::FileField;
+use refusal::answer::Answer;
 use refusal::refused::Refused;
+use std::fmt;
 use std::io;
 
 // What a call answered.
 pub(crate) fn tell(rt: &impl Print, what: &str, answer: Result<(), Refused>) -> io::Result<()> {
-    match answer {
-        Ok(()) => println!(rt; "{what}: granted"),
-        Err(e) => {
-            let number = e.reason.number();
-            let at = e.at;
-            println!(rt; "{what}: refused {number} {at}")
-        }
-    }
+    let answer = Answer(answer);
+    println!(rt; "{what}: {answer}")
 }
 
-// An element by its coordinates, joined by commas; no field here has more than two.
-fn show_element<F: FileField>(rt: &impl Print, x: F) -> io::Result<()> {
-    match (x.coordinate(0), x.coordinate(1)) {
-        (Some(a), Some(b)) => print!(rt; " {a},{b}"),
-        (Some(a), None) => print!(rt; " {a}"),
-        (None, _) => print!(rt; " ?"),
+// Elements, each behind a space, by their coordinates, which commas join: no field here has more than two.
+#[derive(Clone, Copy)]
+struct Elements<'a, F>(&'a [F]);
+
+impl<'a, F: FileField> fmt::Display for Elements<'a, F> {
+    fn fmt<W: fmt::Write>(&self, f: &mut fmt::Formatter<W>) -> fmt::Result {
+        for x in self.0 {
+            match (x.coordinate(0), x.coordinate(1)) {
+                (Some(a), Some(b)) => write!(f, " {a},{b}")?,
+                (Some(a), None) => write!(f, " {a}")?,
+                (None, _) => write!(f, " ?")?,
+            }
+        }
+        Ok(())
     }
 }
 
 pub(crate) fn show<F: FileField>(rt: &impl Print, what: &str, xs: &[F]) -> io::Result<()> {
-    print!(rt; "{what}:")?;
-    for x in xs {
-        show_element(rt, *x)?;
-    }
-    println!(rt; "")
+    let elements = Elements(xs);
+    println!(rt; "{what}:{elements}")
 }

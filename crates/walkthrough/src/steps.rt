@@ -2,10 +2,12 @@
 use crate::print::{show, tell};
 use field::field::Field;
 use modular::f97::F97;
+use refusal::answer::Answer;
 use sheet::counts::Counts;
 use sheet::entry::Entry;
 use sheet::head::Head;
-use sheet::head::calls::{assign, enter, make};
+use sheet::head::calls::{TABLE_SIZE, assign, enter, make};
+use sheet::matrix::Matrix;
 use square::extend::extend;
 use square::row::sums;
 use std::io;
@@ -28,25 +30,25 @@ fn show_row(
     }
 }
 
-// Assigns x, extends, and looks at the row.
+// Assigns x to wire 1, extends, and looks at the row.
 fn try_value(
     rt: &impl Print,
     head: &Head,
     entries: &[Entry<F97>],
     values: &mut [F97],
-    what: &str,
     x: F97,
 ) -> io::Result<()> {
+    let number = x.value();
+    let assigned = Answer(assign(head, values, 1, x));
+    println!(rt; "assign {number} to wire 1: {assigned}")?;
     let mut extended = [F97::zero(); 5];
-    tell(rt, what, assign(head, values, 1, x))?;
     tell(rt, "extend", extend(head, entries, values, &mut extended))?;
     show(rt, "extended values", &extended)?;
     show_row(rt, head, entries, values)
 }
 
 pub(crate) fn step_by_step(rt: &impl Print) -> io::Result<()> {
-    let one = F97::one();
-    let mut entries = [Entry::<F97>::blank(); 2048];
+    let mut entries = [Entry::<F97>::blank(); TABLE_SIZE];
     let mut values = [F97::zero(); 2];
     let counts = Counts {
         wires: 2,
@@ -60,40 +62,24 @@ pub(crate) fn step_by_step(rt: &impl Print) -> io::Result<()> {
     let n = head.n();
     let k = head.k();
     println!(rt; "make a sheet of 2 wires, 1 public, and 1 row: granted, n = {n}, k = {k}")?;
-    tell(
-        rt,
-        "enter 1 at A, row 0, wire 1",
-        enter(&mut head, &mut entries, 0, 0, 1, one),
-    )?;
-    tell(
-        rt,
-        "enter 1 at B, row 0, wire 1",
-        enter(&mut head, &mut entries, 1, 0, 1, one),
-    )?;
-    tell(
-        rt,
-        "enter 1 at C, row 0, wire 0",
-        enter(&mut head, &mut entries, 2, 0, 0, one),
-    )?;
-    tell(
-        rt,
-        "enter 1 at A, row 1, wire 1",
-        enter(&mut head, &mut entries, 0, 1, 1, one),
-    )?;
-    try_value(
-        rt,
-        &head,
-        &entries,
-        &mut values,
-        "assign 96 to wire 1",
-        F97::new(96),
-    )?;
-    try_value(
-        rt,
-        &head,
-        &entries,
-        &mut values,
-        "assign 5 to wire 1",
-        F97::new(5),
-    )
+    // x · x = 1, and then an entry in a row that there is not
+    let positions = [
+        (Matrix::A, 0, 1),
+        (Matrix::B, 0, 1),
+        (Matrix::C, 0, 0),
+        (Matrix::A, 1, 1),
+    ];
+    for (matrix, row, wire) in positions {
+        let entered = Answer(enter(
+            &mut head,
+            &mut entries,
+            matrix.number(),
+            row,
+            wire,
+            F97::one(),
+        ));
+        println!(rt; "enter 1 at {matrix:?}, row {row}, wire {wire}: {entered}")?;
+    }
+    try_value(rt, &head, &entries, &mut values, F97::new(96))?;
+    try_value(rt, &head, &entries, &mut values, F97::new(5))
 }

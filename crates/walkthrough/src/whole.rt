@@ -1,12 +1,10 @@
 // The same sheet by one call that takes the whole list of calls, and its quotient multiplied out.
 use crate::print::{show, tell};
+use crate::told::told;
 use field::field::Field;
 use modular::f97::F97;
-use refusal::refused::Refused;
-use runs::survey::survey;
 use sheet::call::Call;
 use sheet::counts::Counts;
-use sheet::entry::Entry;
 use std::io;
 use transform::interpolate::interpolate;
 use transform::polynomial::Polynomial;
@@ -42,18 +40,18 @@ fn listed(x: F97) -> [Call<F97>; 6] {
 }
 
 fn subtract(u: &mut [F97], w: &[F97]) {
-    for (i, c) in w.iter().enumerate() {
-        if i < u.len() {
-            u[i] = u[i].add(c.neg());
-        }
+    for (a, b) in u.iter_mut().zip(w) {
+        *a = a.add(b.neg());
     }
 }
 
 // u² - w and h (X^4 - 1), coefficient by coefficient. The rows of this sheet say, from the first:
 // z_0² = p, (x - x)² = s, 0² = q and (x + x)² = 4 (p - q) + s.
-fn multiply_out(rt: &impl Print, extended: &[F97; 5], h: &[F97; 3]) -> io::Result<()> {
+fn multiply_out(rt: &impl Print, extended: &[F97], h: &[F97]) -> io::Result<()> {
+    let [one, x, p, q, s] = *extended else {
+        return Ok(());
+    };
     let zero = F97::zero();
-    let [one, x, p, q, s] = *extended;
     let four = F97::new(4);
     let left = [one, x.add(x.neg()), zero, x.add(x)];
     let right = [p, s, q, four.mul(p.add(q.neg())).add(s)];
@@ -89,20 +87,7 @@ fn multiply_out(rt: &impl Print, extended: &[F97; 5], h: &[F97; 3]) -> io::Resul
     println!(rt; "the two polynomials are {same}")
 }
 
-fn survey_with(rt: &impl Print, x: F97) -> io::Result<()> {
-    let calls = listed(x);
-    let granted: Result<(), Refused> = Ok(());
-    let zero = F97::zero();
-    let mut answers = [granted; 6];
-    let mut entries = [Entry::<F97>::blank(); 2048];
-    let mut values = [zero; 2];
-    let mut extended = [zero; 5];
-    let mut divided = [zero; 3];
-    let mut published = [zero; 4];
-    let mut work = [zero; 21];
-    let mut scratch = [zero; 9];
-    let mut spare_entries = [Entry::<F97>::blank(); 2047];
-    let mut spare_values = [zero; 1];
+fn survey_with(rt: &HostRuntime, x: F97) -> io::Result<()> {
     let number = x.value();
     println!(rt; "survey six calls as one list, with x = {number}")?;
     let counts = Counts {
@@ -110,30 +95,17 @@ fn survey_with(rt: &impl Print, x: F97) -> io::Result<()> {
         publics: 1,
         rows: 1,
     };
-    match survey(
-        counts,
-        &calls,
-        &mut answers,
-        &mut entries,
-        &mut values,
-        &mut extended,
-        &mut divided,
-        &mut published,
-        &mut work,
-        &mut scratch,
-        &mut spare_entries,
-        &mut spare_values,
-    ) {
+    match told(rt, counts, &listed(x))? {
         Ok(s) => {
-            for answer in &answers {
+            for answer in &s.answers {
                 tell(rt, "listed call", *answer)?;
             }
-            show(rt, "extended values", &extended)?;
+            show(rt, "extended values", &s.extended)?;
             tell(rt, "quotient", s.quotient)?;
-            show(rt, "public", &published)?;
+            show(rt, "public", &s.published)?;
             if s.quotient.is_ok() {
-                show(rt, "quotient", &divided)?;
-                multiply_out(rt, &extended, &divided)?;
+                show(rt, "quotient", &s.divided)?;
+                multiply_out(rt, &s.extended, &s.divided)?;
             }
             Ok(())
         }
@@ -141,7 +113,7 @@ fn survey_with(rt: &impl Print, x: F97) -> io::Result<()> {
     }
 }
 
-pub(crate) fn both_witnesses(rt: &impl Print) -> io::Result<()> {
+pub(crate) fn both_witnesses(rt: &HostRuntime) -> io::Result<()> {
     survey_with(rt, F97::new(96))?;
     survey_with(rt, F97::new(5))
 }
