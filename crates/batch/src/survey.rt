@@ -6,6 +6,7 @@ use field::field::Field;
 use field::file_field::FileField;
 use refusal::answer::Answer;
 use refusal::refused::Refused;
+use runs::lent::Lent;
 use runs::survey::survey;
 use sheet::call::Call;
 use sheet::counts::Counts;
@@ -17,9 +18,9 @@ use std::io;
 // How long the spares are, of which a call with a wrong length is handed a part.
 const SPARE: usize = 2100;
 
-// What is lent, each with the bit that tells that it is a place too long.
+// What is lent for a survey, each with the bit that tells that it is a place too long.
 #[derive(Clone, Copy)]
-enum Lent {
+enum Part {
     Answers = 1,
     Entries = 2,
     Values = 4,
@@ -34,9 +35,9 @@ enum Lent {
 struct Misfits(u32);
 
 impl Misfits {
-    // The stated length of what is lent, or one more.
-    fn length(self, lent: Lent, stated: usize) -> usize {
-        if self.0 & lent as u32 != 0 {
+    // The stated length of a part, or one more.
+    fn length(self, part: Part, stated: usize) -> usize {
+        if self.0 & part as u32 != 0 {
             stated.saturating_add(1)
         } else {
             stated
@@ -104,30 +105,29 @@ fn print_survey<F: FileField>(
     let Sizes { wires, columns, n } = sizes_of::<F>(counts);
     let work_places = columns.saturating_add(n.saturating_mul(4));
     let scratch_places = columns.saturating_add(n);
-    let mut answers = vec![in heap; granted; misfits.length(Lent::Answers, calls.len())]?;
-    let mut entries = vec![in heap; blank; misfits.length(Lent::Entries, TABLE_SIZE)]?;
-    let mut values = vec![in heap; zero; misfits.length(Lent::Values, wires)]?;
-    let mut extended = vec![in heap; zero; misfits.length(Lent::Extended, columns)]?;
-    let mut divided = vec![in heap; zero; misfits.length(Lent::Divided, n.saturating_sub(1))]?;
-    let mut published = vec![in heap; zero; misfits.length(Lent::Published, n)]?;
-    let mut work = vec![in heap; zero; misfits.length(Lent::Work, work_places)]?;
-    let mut scratch = vec![in heap; zero; misfits.length(Lent::Scratch, scratch_places)]?;
+    let mut answers = vec![in heap; granted; misfits.length(Part::Answers, calls.len())]?;
+    let mut entries = vec![in heap; blank; misfits.length(Part::Entries, TABLE_SIZE)]?;
+    let mut values = vec![in heap; zero; misfits.length(Part::Values, wires)]?;
+    let mut extended = vec![in heap; zero; misfits.length(Part::Extended, columns)]?;
+    let mut divided = vec![in heap; zero; misfits.length(Part::Divided, n.saturating_sub(1))]?;
+    let mut published = vec![in heap; zero; misfits.length(Part::Published, n)]?;
+    let mut work = vec![in heap; zero; misfits.length(Part::Work, work_places)]?;
+    let mut scratch = vec![in heap; zero; misfits.length(Part::Scratch, scratch_places)]?;
     let mut spare_entries = vec![in heap; blank; SPARE]?;
     let mut spare_values = vec![in heap; zero; SPARE]?;
-    match survey(
-        counts,
-        calls,
-        &mut answers,
-        &mut entries,
-        &mut values,
-        &mut extended,
-        &mut divided,
-        &mut published,
-        &mut work,
-        &mut scratch,
-        &mut spare_entries,
-        &mut spare_values,
-    ) {
+    let lent = Lent {
+        answers: &mut answers,
+        entries: &mut entries,
+        values: &mut values,
+        extended: &mut extended,
+        divided: &mut divided,
+        published: &mut published,
+        work: &mut work,
+        scratch: &mut scratch,
+        spare_entries: &mut spare_entries,
+        spare_values: &mut spare_values,
+    };
+    match survey(counts, calls, lent) {
         Ok(surveyed) => {
             print_head(rt, &surveyed.head)?;
             for answer in &answers {

@@ -3,8 +3,6 @@ ghost use Rattle.runs.specs.Law.{LawOverRuns};
 
 use field::field::Field;
 
-pub fn law_over_runs<F: Field>() -> u8
+pub fn law_over_runs<F: Field>()
     ensures { LawOverRuns F.ops }
-{
-    0
-}
+{}

@@ -2,6 +2,7 @@
 #![tactic(auto)]
 
 pub mod law;
+pub mod lent;
 pub mod list;
 pub mod survey;
 pub mod surveyed;
