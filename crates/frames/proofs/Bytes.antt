@@ -1,7 +1,7 @@
 -- Numbers written as bytes and read again.
 use Rattle.std.proofs.Common.{◌≡◌, ℕ, zero, suc, ◌+◌, ◌*◌, ◌/◌, ◌%◌, ◌^◌, ◌<◌, ◌≤◌, List, [], ◌∷◌, ◌++◌, length, get_or, take, drop, sym, refl, ap, ◌∙◌, add_assoc, arith, length-append, length-drop, length-take-le, get_or-drop, drop-drop, take_at, drop_at}
 use native.Mathlib.Nat.{pow-succ'}
-use Rattle.std.proofs.lemmas.List.{drop_more}
+use Rattle.std.proofs.lemmas.List.{drop_more, take-append-drop}
 use Rattle.frames.specs.Little.{little, le4, le8}
 
 -- the number that bytes spell
@@ -78,10 +78,9 @@ little_value (b ∷ bs) small =
     let d : (b + 256 * value bs) / 256 ≡ value bs = omega arith in
     rw (m, d) (ap (λ r. b ∷ r) (little_value bs (λ i. small (suc i))))
 
-pub parted : (n : ℕ) (xs : List ℕ) → xs ≡ take n xs ++ drop n xs
-parted zero xs = refl
-parted (suc n) [] = refl
-parted (suc n) (x ∷ xs) = ap (λ r. x ∷ r) (parted n xs)
+-- so many elements from a place on, and what follows them
+pub parted : (n at : ℕ) (xs : List ℕ) → drop at xs ≡ take n (drop at xs) ++ drop (at + n) xs
+parted n at xs = sym (take-append-drop n (drop at xs)) ∙ ap (λ l. take n (drop at xs) ++ l) (drop-drop n at xs)
 
 pub take_small : (n : ℕ) (xs : List ℕ) → ((i : ℕ) → get_or xs i 0 < 256) → (i : ℕ) → get_or (take n xs) i 0 < 256
 take_small zero xs small i = omega arith
@@ -109,10 +108,8 @@ module _ (xs : List ℕ) (small : (i : ℕ) → get_or xs i 0 < 256) where
 
   pub four_back : (at : ℕ) → at + 4 ≤ length xs → drop at xs ≡ little 4 (le4 xs at) ++ drop (at + 4) xs
   four_back at h =
-      parted 4 (drop at xs) ∙ ap (λ l. l ++ drop 4 (drop at xs)) (sym (front 4 at h) ∙ ap (little 4) (sym (le4_value xs at h)))
-      ∙ ap (λ l. little 4 (le4 xs at) ++ l) (drop-drop 4 at xs)
+      parted 4 at xs ∙ ap (λ l. l ++ drop (at + 4) xs) (sym (front 4 at h) ∙ ap (little 4) (sym (le4_value xs at h)))
 
   pub eight_back : (at : ℕ) → at + 8 ≤ length xs → drop at xs ≡ little 8 (le8 xs at) ++ drop (at + 8) xs
   eight_back at h =
-      parted 8 (drop at xs) ∙ ap (λ l. l ++ drop 8 (drop at xs)) (sym (front 8 at h) ∙ ap (little 8) (sym (le8_value xs at h)))
-      ∙ ap (λ l. little 8 (le8 xs at) ++ l) (drop-drop 8 at xs)
+      parted 8 at xs ∙ ap (λ l. l ++ drop (at + 8) xs) (sym (front 8 at h) ∙ ap (little 8) (sym (le8_value xs at h)))

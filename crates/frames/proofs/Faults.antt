@@ -1,5 +1,6 @@
 -- How checks follow one another.
-use Rattle.std.proofs.Common.{◌≡◌, ℕ, Bool, true, false, Some, None, refl, arith}
+use Rattle.std.proofs.Common.{◌≡◌, ℕ, Bool, true, false, Option, Some, None, Err, refl, arith}
+use Rattle.std.specs.Option.{ok_or}
 use Rattle.refusal.specs.Due.{Due}
 use Rattle.refusal.specs.Numbers.{number_of}
 use Rattle.refusal.specs.declared.reason.Refusal.{Refusal}
@@ -28,3 +29,8 @@ passed false v n at e = absurd (no_fault (n, at) e)
 -- what a refusal made at a place tells
 pub told_at : (e : Refused) (reason : Refusal) (at : ℕ) → (e.reason ≡ reason) × (e.at ≡ at) → told e ≡ Some (number_of reason, at)
 told_at e reason at h = rw (h.0, h.1)
+
+-- what is missing where `ok_or` refuses, and by which refusal
+pub missing : {T : Type 0} → (o : Option T) (e d : Refused) → Err d ≡ ok_or o e → (o ≡ None) × (d ≡ e)
+missing None e d h = (refl, cc)
+missing (Some x) e d h = absurd (cc)

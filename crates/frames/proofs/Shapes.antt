@@ -14,6 +14,7 @@ not_body (Header p) k bs h n e = omega arith
 not_body (Body p) k bs h n e = n p refl
 not_body (Other j p) k bs h n e = h.3 e
 
-pub named : (s : Section) (k : ℕ) (bs : List ℕ) → Shows s k bs → ((p : Bor (List ℕ)) × (s ≡ Header p)) ⊎ ((p : Bor (List ℕ)) × (s ≡ Body p)) → (k ≡ 1) ⊎ (k ≡ 2)
-named s k bs h (inl p) = inl (rw p.1 at h).0
-named s k bs h (inr p) = inr (rw p.1 at h).0
+pub named : (s : Section) (k : ℕ) (bs : List ℕ) → Shows s k bs → ((n : ℕ) (p : Bor (List ℕ)) → s ≡ Other n p → ⊥) → (k ≡ 1) ⊎ (k ≡ 2)
+named (Header p) k bs h n = inl h.0
+named (Body p) k bs h n = inr h.0
+named (Other j p) k bs h n = absurd (n j p refl)

@@ -1,5 +1,5 @@
 -- The sections of a file, from its sections to its bytes and back.
-use Rattle.std.proofs.Common.{◌≡◌, ℕ, zero, suc, ◌+◌, ◌-◌, ◌^◌, ◌<◌, ◌≤◌, true, ◌&&◌, ◌||◌, eqb, leb, List, [], ◌∷◌, ◌++◌, length, take, drop, Some, None, sym, refl, ap, ◌∙◌, append_assoc, add_assoc, arith, length-drop, length-take-le, drop-drop, take_at, eq-eqb, ne_eqb, eqb-true, leb-true}
+use Rattle.std.proofs.Common.{◌≡◌, ℕ, zero, suc, ◌+◌, ◌-◌, ◌^◌, ◌<◌, ◌≤◌, true, ◌&&◌, ◌||◌, eqb, leb, List, [], ◌∷◌, ◌++◌, length, take, drop, Some, None, sym, refl, ap, ◌∙◌, append_assoc, add_assoc, arith, length-drop, length-take-le, take_at, eq-eqb, ne_eqb, eqb-true, leb-true}
 use lib.Seq.{drop-length}
 use Rattle.std.specs.List.{AllByRecursion}
 use Rattle.std.proofs.lemmas.Bool.Decides.{nat_tests}
@@ -113,7 +113,7 @@ there xs at h =
     let n = le8 xs (at + 4) in
     let e : length (take n (drop (at + 12) xs)) ≡ n = length-take-le n (drop (at + 12) xs) (simp length-drop (omega arith)) in
     record {
-      here = rw e (parted n (drop (at + 12) xs) ∙ ap (λ l. take n (drop (at + 12) xs) ++ l) (drop-drop n (at + 12) xs));
+      here = rw e (parted n (at + 12) xs);
       size = e;
       within = omega (arith, e);
     }
@@ -131,7 +131,7 @@ module _ (xs : List ℕ) (small : Bytes xs) where
       let n = le8 xs (at + 4) in
       let e : length (take n (drop (at + 12) xs)) ≡ n = length-take-le n (drop (at + 12) xs) (simp length-drop (omega arith)) in
       let b : drop (at + 4) xs ≡ little 8 n ++ drop (at + 12) xs = rw add_assoc at (eight_back xs small (at + 4) (omega arith)) in
-      let c : drop (at + 12) xs ≡ take n (drop (at + 12) xs) ++ drop (past xs at) xs = parted n (drop (at + 12) xs) ∙ ap (λ l. take n (drop (at + 12) xs) ++ l) (drop-drop n (at + 12) xs) in
+      let c : drop (at + 12) xs ≡ take n (drop (at + 12) xs) ++ drop (past xs at) xs = parted n (at + 12) xs in
       let l : length (payload xs at) < 2 ^ 64 = omega (arith, e, le8_lt xs small (at + 4)) in
       ((le4_lt xs small at, l), simp (append_assoc, e) (four_back xs small at (omega arith) ∙ ap (λ l. little 4 (le4 xs at) ++ l) (b ∙ ap (λ l. little 8 n ++ l) c)))
 
@@ -198,7 +198,7 @@ module _ (xs : List ℕ) (small : Bytes xs) where
 
 -- what the code's layout shows, as sections; and a file that is refused has none
 pub shown : (m v : ℕ) (xs : List ℕ) (s : Layout) → m < 2 ^ 32 → v < 2 ^ 32 → Bytes xs → laid m v xs ≡ None → Holds xs s
-    → (ss : List Block) × Consists m v xs ss × (section_of 1 ss ≡ Some s.header.now) × (section_of 2 ss ≡ Some s.body.now)
+    → (ss : List Block) × Consists m v xs ss × (section_of 1 ss ≡ Some s.header.bytes.now) × (section_of 2 ss ≡ Some s.body.bytes.now)
 shown m v xs s a b small e h =
     let t = consists xs small m v e in
     let f = found m v xs a b t.0 t.1 in

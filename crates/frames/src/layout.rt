@@ -1,8 +1,13 @@
-// The two sections that a reader looks for: their payloads, and where these begin in the file.
+// A section's payload, and where it begins in the file.
+#[derive(Clone, Copy)]
+pub struct Payload<'a> {
+    pub bytes: &'a [u8],
+    pub at: usize,
+}
+
+// The payloads of the two sections that a reader looks for.
 #[derive(Clone, Copy)]
 pub struct Layout<'a> {
-    pub header: &'a [u8],
-    pub header_at: usize,
-    pub body: &'a [u8],
-    pub body_at: usize,
+    pub header: Payload<'a>,
+    pub body: Payload<'a>,
 }

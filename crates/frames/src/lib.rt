@@ -1,6 +1,7 @@
 // What constraint files and assignment files share: a start, and sections in frames.
 #![tactic(auto)]
 
+pub mod format;
 pub mod layout;
 pub mod number;
 pub mod section;

@@ -1,9 +1,15 @@
+// The kinds of sections: the header, the rows or the values, and the labels of a constraint file.
+pub const HEADER: u32 = 1;
+
+pub const BODY: u32 = 2;
+
+pub const LABELS: u32 = 3;
+
 // A section as its kind tells it apart, with its payload borrowed from the file.
 #[derive(Clone, Copy)]
 pub enum Section<'a> {
-    // kind 1
     Header(&'a [u8]),
-    // kind 2: the rows of a constraint file, the values of an assignment file
+    // the rows of a constraint file, the values of an assignment file
     Body(&'a [u8]),
     // passed over
     Other { kind: u32, bytes: &'a [u8] },

@@ -6,9 +6,10 @@ ghost use Rattle.frames.specs.Faults.{told};
 ghost use Rattle.frames.specs.Checks.{past, payload, started, framed, others, kinds, laid};
 ghost use Rattle.frames.specs.Shown.{Shows, Holds, Split};
 
-use crate::layout::Layout;
+use crate::format::Format;
+use crate::layout::{Layout, Payload};
 use crate::number::{pair, word};
-use crate::section::Section;
+use crate::section::{BODY, HEADER, Section};
 use refusal::reason::Refusal;
 use refusal::refused::Refused;
 
@@ -17,8 +18,8 @@ pub fn section_of(kind: u32, payload: &[u8]) -> Section<'_>
     ensures { Shows result kind payload.now }
 {
     match kind {
-        1 => Section::Header(payload),
-        2 => Section::Body(payload),
+        HEADER => Section::Header(payload),
+        BODY => Section::Body(payload),
         _ => Section::Other {
             kind,
             bytes: payload,
@@ -30,38 +31,28 @@ pub fn section_of(kind: u32, payload: &[u8]) -> Section<'_>
 pub fn section_at(bytes: &[u8], at: usize) -> Result<(Section<'_>, usize), Refused>
     ensures { MatchResult result (λ s. (past bytes.now at ≤ length bytes.now) × Shows s.0 (le4 bytes.now at) (payload bytes.now at) × (s.1 ≡ past bytes.now at)) (λ e. (length bytes.now < past bytes.now at) × (told e ≡ Some (8, at))) }
 {
-    if at > bytes.len() {
-        return Err(Refusal::BadLayout.at(at));
-    }
-    let Some((kind, size, rest)) = pair(&bytes[at..]) else {
-        return Err(Refusal::BadLayout.at(at));
-    };
+    let head = bytes.get(at..).ok_or(Refusal::BadLayout.at(at))?;
+    let (kind, size, rest) = pair(head).ok_or(Refusal::BadLayout.at(at))?;
     if size > rest.len() as u64 {
         return Err(Refusal::BadLayout.at(at));
     }
     let size = size as usize;
-    Ok((section_of(kind, &rest[0..size]), at + 12 + size))
+    Ok((section_of(kind, &rest[..size]), at + 12 + size))
 }
 
-// The file's start, its version and its section count.
-pub fn start(bytes: &[u8], magic: u32, version: u32) -> Result<u32, Refused>
-    ensures { Decided (started magic version bytes.now) result (λ n. (12 ≤ length bytes.now) × (n ≡ le4 bytes.now 8) × (2 ≤ n)) (Unit {0}) }
+// The file's start, its format and its section count.
+pub fn start(bytes: &[u8], format: Format) -> Result<u32, Refused>
+    ensures { Decided (started format.magic format.version bytes.now) result (λ n. (12 ≤ length bytes.now) × (n ≡ le4 bytes.now 8) × (2 ≤ n)) (Unit {0}) }
 {
-    let Some((first, rest)) = word(bytes) else {
-        return Err(Refusal::BadLayout.at(0));
-    };
-    if first != magic {
+    let (magic, rest) = word(bytes).ok_or(Refusal::BadLayout.at(0))?;
+    if magic != format.magic {
         return Err(Refusal::BadLayout.at(0));
     }
-    let Some((second, rest)) = word(rest) else {
-        return Err(Refusal::BadLayout.at(4));
-    };
-    if second != version {
+    let (version, rest) = word(rest).ok_or(Refusal::BadLayout.at(4))?;
+    if version != format.version {
         return Err(Refusal::BadLayout.at(4));
     }
-    let Some((count, _)) = word(rest) else {
-        return Err(Refusal::BadLayout.at(8));
-    };
+    let (count, _) = word(rest).ok_or(Refusal::BadLayout.at(8))?;
     if count < 2 {
         return Err(Refusal::BadLayout.at(8));
     }
@@ -73,12 +64,9 @@ fn check_frames(bytes: &[u8], count: u32) -> Result<(), Refused>
     requires { 12 ≤ length bytes.now }
     ensures { Decided (framed bytes.now count 12) result (λ _. Unit {0}) (Unit {0}) }
 {
-    let mut at: usize = 12;
-    let mut left = count;
-    while left > 0 {
-        let (_, next) = section_at(bytes, at)?;
-        at = next;
-        left -= 1;
+    let mut at = 12;
+    for _ in 0..count {
+        (_, at) = section_at(bytes, at)?;
     }
     if at != bytes.len() {
         return Err(Refusal::BadLayout.at(at));
@@ -92,15 +80,12 @@ fn check_others(bytes: &[u8], count: u32, from: usize) -> Result<(), Refused>
     ensures { Decided (others bytes.now count from) result (λ _. Unit {0}) (Unit {0}) }
 {
     let mut at = from;
-    let mut left = count;
-    while left > 0 {
+    for _ in 0..count {
         let (section, next) = section_at(bytes, at)?;
-        match section {
-            Section::Other { .. } => {}
-            Section::Header(_) | Section::Body(_) => return Err(Refusal::BadLayout.at(at)),
-        }
+        let Section::Other { .. } = section else {
+            return Err(Refusal::BadLayout.at(at));
+        };
         at = next;
-        left -= 1;
     }
     Ok(())
 }
@@ -120,26 +105,30 @@ fn check_kinds(bytes: &[u8], count: u32) -> Result<Layout<'_>, Refused>
     };
     check_others(bytes, count - 2, third_at)?;
     Ok(Layout {
-        header,
-        header_at: 24,
-        body,
-        body_at: second_at + 12,
+        header: Payload {
+            bytes: header,
+            at: 24,
+        },
+        body: Payload {
+            bytes: body,
+            at: second_at + 12,
+        },
     })
 }
 
 // All checks in their order.
-fn checked(bytes: &[u8], magic: u32, version: u32) -> Result<Layout<'_>, Refused>
-    ensures { Decided (laid magic version bytes.now) result (λ s. Holds bytes.now s) (Unit {0}) }
+fn checked(bytes: &[u8], format: Format) -> Result<Layout<'_>, Refused>
+    ensures { Decided (laid format.magic format.version bytes.now) result (λ s. Holds bytes.now s) (Unit {0}) }
 {
-    let count = start(bytes, magic, version)?;
+    let count = start(bytes, format)?;
     check_frames(bytes, count)?;
     check_kinds(bytes, count)
 }
 
-// The file with this start and this version, taken apart: `verdict` by the order of the checks, `sections` by what a file is.
-pub fn split(bytes: &[u8], magic: u32, version: u32) -> Result<Layout<'_>, Refused>
-    ensures verdict { Decided (laid magic version bytes.now) result (λ s. Holds bytes.now s) (Unit {0}) }
-    ensures sections { Split magic version bytes.now result }
+// The file of this format, taken apart: `verdict` by the order of the checks, `sections` by what a file is.
+pub fn split(bytes: &[u8], format: Format) -> Result<Layout<'_>, Refused>
+    ensures verdict { Decided (laid format.magic format.version bytes.now) result (λ s. Holds bytes.now s) (Unit {0}) }
+    ensures sections { Split format.magic format.version bytes.now result }
 {
-    checked(bytes, magic, version)
+    checked(bytes, format)
 }
