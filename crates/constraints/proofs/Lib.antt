@@ -5,3 +5,4 @@ pub mod Handed
 pub mod Back
 pub mod Stood
 pub mod Single
+pub mod Lists

@@ -1,5 +1,6 @@
 -- One step of each check.
-use Rattle.std.proofs.Common.{◌≡◌, ℕ, zero, suc, ◌+◌, ◌-◌, ◌<◌, ◌≤◌, List, length, Some, None, refl, arith, le-ltb, lt-ltb, eq-eqb, ne_eqb, le-leb}
+use Rattle.std.proofs.Common.{◌≡◌, ℕ, zero, suc, ◌+◌, ◌-◌, ◌<◌, ◌≤◌, List, length, Some, None, refl, arith, le-ltb, lt-ltb, eq-eqb, ne_eqb, le-leb, inl, inr}
+use Rattle.std.proofs.lemmas.Bool.{cases_eq}
 use borrow.Author.Tests.{lt-leb}
 use Rattle.frames.specs.Little.{le4, le8}
 use Rattle.frames.specs.Faults.{then}
@@ -48,15 +49,14 @@ module _ (xs : List ℕ) (w p : ℕ) where
     lists_over at e = rw (ne_eqb at stop e)
 
 module _ (hs : List ℕ) (at p : ℕ) where
-  pub head_size : ¬ (length hs ≡ 40) → headed hs at p ≡ Some (8, at)
+  pub no_header : ¬ ((length hs ≡ 40) × (le4 hs 0 ≡ 8)) → headed hs at p ≡ Some (8, at)
   unfolding headed
-  head_size h = rw (ne_eqb (length hs) 40 h)
+  no_header n = elim (cases_eq (length hs) 40) [
+    | inl l ↦ rw (eq-eqb (length hs) 40 l, ne_eqb (le4 hs 0) 8 (λ e. n (l, e)))
+    | inr l ↦ rw (ne_eqb (length hs) 40 l)
+  ]
 
   module _ (l : length hs ≡ 40) where
-    pub field_size : ¬ (le4 hs 0 ≡ 8) → headed hs at p ≡ Some (8, at)
-    unfolding headed
-    field_size h = rw (eq-eqb (length hs) 40 l, ne_eqb (le4 hs 0) 8 h)
-
     module _ (f : le4 hs 0 ≡ 8) where
       pub other_prime : ¬ (le8 hs 4 ≡ p) → headed hs at p ≡ Some (9, at + 4)
       unfolding headed

@@ -3,7 +3,6 @@
 
 pub mod header;
 pub mod item;
-mod number;
 pub mod reader;
 pub mod row;
 mod rows;

@@ -1,18 +1,15 @@
 // A constraint file, opened: its header's numbers, and its rows in order.
-ghost use Rattle.std.specs.Prelude.{◌≡◌, ◌<◌, ◌≤◌, List, length, MatchOption};
+ghost use Rattle.std.specs.Prelude.{◌≡◌, ◌<◌, ◌≤◌, List, length, MatchOption, ⊤};
+ghost use Rattle.std.specs.Iterator.{at_most, MakesProgress};
 ghost use Rattle.constraints.specs.Circuit.{Line};
 ghost use Rattle.constraints.specs.Reader.{Checked, ReadsCircuit, after_row, Parts, again, Takes, Ahead, TakesFirst};
 
 use crate::header::Header;
 use crate::row::Row;
 use crate::rows::{check_header, check_lists, list_at};
+use frames::format::CONSTRAINTS;
 use frames::split::split;
 use refusal::refused::Refused;
-
-// The file's bytes 72 31 63 73.
-const MAGIC: u32 = 0x7363_3172;
-
-const VERSION: u32 = 1;
 
 // A reader promises nothing by itself: `next` looks where its rows end.
 #[derive(Drop)]
@@ -33,22 +30,15 @@ pub struct RowReader<'a> {
 fn checked(bytes: &[u8], prime: u64) -> Result<RowReader<'_>, Refused>
     ensures { Checked bytes.now prime result }
 {
-    let layout = split(bytes, MAGIC, VERSION)?;
-    let header = check_header(layout.header, layout.header_at, prime)?;
-    let first = layout.body_at;
-    let stop = first + layout.body.len();
-    check_lists(
-        bytes,
-        first,
-        stop,
-        3 * (header.rows as u64),
-        header.wires,
-        prime,
-    )?;
+    let layout = split(bytes, CONSTRAINTS)?;
+    let header = check_header(layout.header, prime)?;
+    let first = layout.body.at;
+    let stop = first + layout.body.bytes.len();
+    check_lists(bytes, first, stop, header)?;
     Ok(RowReader {
         bytes,
         header,
-        prime_at: layout.header_at + 4,
+        prime_at: layout.header.at + 4,
         first,
         stop,
         at: first,
@@ -69,52 +59,47 @@ fn row_at(bytes: &[u8], at: usize, stop: usize) -> Option<(Row<'_>, usize)>
     requires { (at ≤ stop) × (stop ≤ length bytes.now) }
     ensures { MatchOption result (stop < after_row bytes.now at) (λ q. Parts bytes.now at q.0 × (q.1 ≡ after_row bytes.now at) × (q.1 ≤ stop)) }
 {
-    let Ok((_, second)) = list_at(bytes, at, stop) else {
-        return None;
-    };
-    let Ok((_, third)) = list_at(bytes, second, stop) else {
-        return None;
-    };
-    let Ok((_, after)) = list_at(bytes, third, stop) else {
-        return None;
-    };
-    let a = &bytes[at + 4..second];
-    let b = &bytes[second + 4..third];
-    let c = &bytes[third + 4..after];
+    let (a, second) = list_at(bytes, at, stop).ok()?;
+    let (b, third) = list_at(bytes, second, stop).ok()?;
+    let (c, after) = list_at(bytes, third, stop).ok()?;
     Some((Row { a, b, c }, after))
 }
 
-impl<'a> RowReader<'a> {
+impl<'a> Iterator for RowReader<'a> {
+    type Item = Row<'a>;
+
+    ghost next_gives = { λ s r t. (again t ≡ again s) × Takes s r t };
+
+    ghost remaining = { λ s. at_most s.left };
+
     // The next row. `row` holds of any reader; `read` of one that stands before the rows of a circuit.
-    pub fn next(&mut self) -> Option<Row<'a>>
+    fn next(&mut self) -> Option<Row<'a>>
         ensures kept { again self.new ≡ again self.old }
         ensures row { Takes self.old result self.new }
         ensures read { (ls : List Line) → Ahead self.old ls → TakesFirst ls result self.new }
+        ensures steps { (again self.new ≡ again self.old) × Takes self.old result self.new }
+        ensures goes { MakesProgress (λ _. ⊤) (λ s. at_most s.left) self.old result self.new }
     {
-        let bytes = self.bytes;
-        let size = bytes.len();
-        let at = self.at;
-        let stop = self.stop;
-        let left = self.left;
-        if left == 0 || stop > size || at > stop {
+        if self.left == 0 || self.stop > self.bytes.len() || self.at > self.stop {
             return None;
         }
-        let Some((row, after)) = row_at(bytes, at, stop) else {
-            return None;
-        };
+        let (row, after) = row_at(self.bytes, self.at, self.stop)?;
         self.at = after;
-        self.left = left - 1;
+        self.left -= 1;
         Some(row)
     }
+}
 
+impl<'a> RowReader<'a> {
     // The reader before its first row again, whatever rows were taken.
     pub fn restart(self) -> RowReader<'a>
         ensures { result ≡ again self.entry }
     {
-        let mut reader = self;
-        reader.at = reader.first;
-        reader.left = reader.header.rows;
-        reader
+        RowReader {
+            at: self.first,
+            left: self.header.rows,
+            ..self
+        }
     }
 
     // Gives the reader up.

@@ -23,14 +23,14 @@ returns-in_err-check_lists c =
     let p = err_from_is_err_and c.from_residual-in_err-check_lists.result c.from_residual-in_err-check_lists.ensures.1 in
     let s = c.in_ok-layout.ensures.verdict in
     let h = simp (s.1.header, s.1.header_at) at c.in_ok-header.ensures in
-    rw (p.1, p.2) (goes _ _ s.0 ∙ goes _ _ h.0 ∙ (simp (s.1.body, s.1.body_at, h.1.0.wires, h.1.0.rows) at c.in_err-check_lists.ensures.0), tt)
+    rw (p.1, p.2) (goes _ _ s.0 ∙ goes _ _ h.0 ∙ (simp (s.1.body, s.1.body_at, h.1.0.wires, h.1.0.rows, h.1.1) at c.in_err-check_lists.ensures.0), tt)
 
 pub returns : goal.returns
 unfolding opened
 returns c =
     let s = c.in_ok-layout.ensures.verdict in
     let h = simp (s.1.header, s.1.header_at) at c.in_ok-header.ensures in (
-      goes _ _ s.0 ∙ goes _ _ h.0 ∙ (simp (s.1.body, s.1.body_at, h.1.0.wires, h.1.0.rows) at c.in_ok-check_lists.ensures.0),
+      goes _ _ s.0 ∙ goes _ _ h.0 ∙ (simp (s.1.body, s.1.body_at, h.1.0.wires, h.1.0.rows, h.1.1) at c.in_ok-check_lists.ensures.0),
       record {
         bytes = refl;
         numbers = h.1.0;

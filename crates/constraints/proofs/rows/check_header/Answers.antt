@@ -1,34 +1,27 @@
 use Rattle.std.proofs.Common.{sym, ◌∙◌, arith}
-use Rattle.frames.proofs.Faults.{told_at}
-use Rattle.constraints.proofs.Walk.{head_size, field_size, other_prime, too_many, head_right}
+use Rattle.std.proofs.lemmas.Option.{MatchOption-at_none, MatchOption-at_some}
+use Rattle.std.proofs.lemmas.Result.{err_from_is_err_and}
+use Rattle.frames.proofs.Faults.{told_at, missing}
+use Rattle.constraints.proofs.Walk.{no_header, other_prime, too_many, head_right}
 use Rattle.constraints.proofs.rows.check_header.Goals as goal
 
-pub returns-then-payload-ne40 : goal.returns-then-payload-ne40
-returns-then-payload-ne40 c = (head_size _ _ _ c.if-payload-ne40.true ∙ sym (told_at _ _ _ c.at.ensures), tt)
-
-pub returns-then-word_at-ne8 : goal.returns-then-word_at-ne8
-returns-then-word_at-ne8 c =
-    (field_size _ _ _ c.if-payload-ne40.false (λ h. c.if-word_at-ne8.true (c.word_at.ensures ∙ h)) ∙ sym (told_at _ _ _ c.at-then-word_at-ne8.ensures), tt)
+pub returns-in_err-header : goal.returns-in_err-header
+returns-in_err-header c =
+    let p = err_from_is_err_and c.from_residual.result c.from_residual.ensures.1 in
+    let m = missing _ _ _ c.in_err-header.ensures.value in
+    rw (p.1, p.2, m.1) (no_header _ _ _ (MatchOption-at_none _ _ m.0 c.numbers.ensures) ∙ sym (told_at _ _ _ c.at.ensures), tt)
 
 pub returns-then-header-prime : goal.returns-then-header-prime
-returns-then-header-prime c = (
-  other_prime _ _ _ c.if-payload-ne40.false (sym c.word_at.ensures ∙ c.if-word_at-ne8.false)
-      (λ h. c.if-header-prime.true (c.numbers-header.ensures.prime ∙ h)) ∙ sym (told_at _ _ _ c.at-then-header-prime.ensures),
-  tt,
-)
+returns-then-header-prime c =
+    let h = MatchOption-at_some _ _ _ c.in_ok-header.ensures.ok_part c.numbers.ensures in
+    (other_prime _ _ _ h.0 h.1 (λ e. c.if-header-prime.true (h.2.prime ∙ e)) ∙ sym (told_at _ _ _ c.at-then-header-prime.ensures), tt)
 
-pub returns-then-header : goal.returns-then-header
-returns-then-header c =
-    let t = c.numbers-header.ensures in (
-      too_many _ _ _ c.if-payload-ne40.false (sym c.word_at.ensures ∙ c.if-word_at-ne8.false)
-          (sym t.prime ∙ c.if-header-prime.false) (omega (arith, t)) ∙ sym (told_at _ _ _ c.at-then-header.ensures),
-      tt,
-    )
+pub returns-then-public-header : goal.returns-then-public-header
+returns-then-public-header c =
+    let h = MatchOption-at_some _ _ _ c.in_ok-header.ensures.ok_part c.numbers.ensures in
+    (too_many _ _ _ h.0 h.1 (sym h.2.prime ∙ c.if-header-prime.false) (omega (arith, h.2)) ∙ sym (told_at _ _ _ c.at-then-public-header.ensures), tt)
 
 pub returns : goal.returns
 returns c =
-    let t = c.numbers-header.ensures in (
-      head_right _ _ _ c.if-payload-ne40.false (sym c.word_at.ensures ∙ c.if-word_at-ne8.false)
-          (sym t.prime ∙ c.if-header-prime.false) (omega (arith, t)),
-      (t, c.if-header-prime.false),
-    )
+    let h = MatchOption-at_some _ _ _ c.in_ok-header.ensures.ok_part c.numbers.ensures in
+    (head_right _ _ _ h.0 h.1 (sym h.2.prime ∙ c.if-header-prime.false) (omega (arith, h.2)), (h.2, c.if-header-prime.false))

@@ -1,9 +1,15 @@
-use Rattle.std.proofs.Common.{◌≡◌, ◌+◌, ◌*◌, ◌≤◌, length}
+use Rattle.std.proofs.Common.{◌≡◌, ℕ, ◌+◌, ◌*◌, List, length}
+use Rattle.frames.specs.Little.{part}
 use Rattle.constraints.specs.Opened.{items}
 use Rattle.constraints.proofs.rows.check_items.Given as goal
 
-abbrev pub invariant-loop-left : goal.invariant-loop-left
-invariant-loop-left l = (l.at + 12 * l.left ≤ length l.bytes) × (items l.bytes l.wires l.prime l.initial.left l.from ≡ items l.bytes l.wires l.prime l.left l.at)
+-- in any file, what is left of the list are items, and their check is what the whole list's comes to
+abbrev pub invariant-loop-item : goal.invariant-loop-item
+invariant-loop-item l =
+    (l.at + length l.item-iterator.rest.now ≡ l.from + length l.list)
+    × ((xs : List ℕ) (n : ℕ) → length l.list ≡ 12 * n → l.list ≡ part xs l.from (12 * n)
+    → (m : ℕ) × (length l.item-iterator.rest.now ≡ 12 * m) × (l.item-iterator.rest.now ≡ part xs l.at (12 * m))
+    × (items xs l.header.wires l.header.prime n l.from ≡ items xs l.header.wires l.header.prime m l.at))
 
-abbrev pub decreases-loop-left : goal.decreases-loop-left
-decreases-loop-left l = l.left
+abbrev pub decreases-loop-item : goal.decreases-loop-item
+decreases-loop-item l = length l.item-iterator.rest.now

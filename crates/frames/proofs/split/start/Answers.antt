@@ -40,7 +40,7 @@ returns-in_err-count c =
     let a = MatchOption-at_some _ _ _ c.in_ok-magic.ensures.ok_part c.word.ensures in
     let l = left c.args.bytes.now _ 4 a.2 in
     let b = MatchOption-at_some _ _ _ c.in_ok-version.ensures.ok_part c.word-2.ensures in
-    let k = left c.args.bytes.now _ 8 (l.next _ b.2) in
+    let k = left c.args.bytes.now _ 8 (l.next 4 _ b.2) in
     let n = MatchOption-at_none _ _ m.0 c.word-3.ensures in
     rw (p.1, p.2, m.1) (
       no_count _ _ _ a.0 (sym a.1 ∙ c.if-magic-format.false) (omega (arith, l.size, a.0, b.0)) (sym (b.1 ∙ l.word) ∙ c.if-version-format.false)
@@ -54,7 +54,7 @@ returns-then-count-lt2 c =
     let a = MatchOption-at_some _ _ _ c.in_ok-magic.ensures.ok_part c.word.ensures in
     let l = left c.args.bytes.now _ 4 a.2 in
     let b = MatchOption-at_some _ _ _ c.in_ok-version.ensures.ok_part c.word-2.ensures in
-    let k = left c.args.bytes.now _ 8 (l.next _ b.2) in
+    let k = left c.args.bytes.now _ 8 (l.next 4 _ b.2) in
     let n = MatchOption-at_some _ _ _ c.in_ok-count.ensures.ok_part c.word-3.ensures in (
       few _ _ _ a.0 (sym a.1 ∙ c.if-magic-format.false) (omega (arith, l.size, a.0, b.0)) (sym (b.1 ∙ l.word) ∙ c.if-version-format.false)
           (omega (arith, k.size, n.0)) (omega (arith, n.1, k.word))
@@ -67,7 +67,7 @@ returns c =
     let a = MatchOption-at_some _ _ _ c.in_ok-magic.ensures.ok_part c.word.ensures in
     let l = left c.args.bytes.now _ 4 a.2 in
     let b = MatchOption-at_some _ _ _ c.in_ok-version.ensures.ok_part c.word-2.ensures in
-    let k = left c.args.bytes.now _ 8 (l.next _ b.2) in
+    let k = left c.args.bytes.now _ 8 (l.next 4 _ b.2) in
     let n = MatchOption-at_some _ _ _ c.in_ok-count.ensures.ok_part c.word-3.ensures in (
       begun _ _ _ a.0 (sym a.1 ∙ c.if-magic-format.false) (omega (arith, l.size, a.0, b.0)) (sym (b.1 ∙ l.word) ∙ c.if-version-format.false)
           (omega (arith, k.size, n.0)) (omega (arith, n.1, k.word)),
