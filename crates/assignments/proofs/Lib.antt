@@ -1,3 +1,4 @@
 pub mod Walk
 pub mod Filled
 pub mod Stands
+pub mod Parts

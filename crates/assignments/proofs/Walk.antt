@@ -1,7 +1,7 @@
 -- One step of each check.
-use Rattle.std.proofs.Common.{◌≡◌, ℕ, zero, suc, ◌+◌, ◌-◌, ◌*◌, ◌<◌, ◌≤◌, false, eqb, ltb, leb, List, [], ◌∷◌, ◌++◌, length, Some, None, refl, ap, add-zero, arith, ltb-true, le-ltb, lt-ltb, eq-eqb, ne_eqb, le-leb}
+use Rattle.std.proofs.Common.{◌≡◌, ℕ, zero, suc, ◌+◌, ◌-◌, ◌*◌, ◌<◌, ◌≤◌, false, eqb, ltb, leb, List, [], ◌∷◌, ◌++◌, length, Some, None, refl, ap, inl, inr, add-zero, arith, ltb-true, le-ltb, lt-ltb, eq-eqb, ne_eqb, le-leb}
 use borrow.Author.Tests.{lt-leb}
-use Rattle.std.proofs.lemmas.Bool.{and_right}
+use Rattle.std.proofs.lemmas.Bool.{and_right, cases_eq}
 use Rattle.frames.specs.Little.{le4, le8}
 use Rattle.refusal.specs.Due.{Due}
 use Rattle.frames.specs.Faults.{check}
@@ -12,15 +12,14 @@ less : (n : ℕ) → n ≡ suc n - 1
 less n = omega arith
 
 module _ (hs : List ℕ) (at size to p n : ℕ) where
-  pub head_short : ¬ (length hs ≡ 16) → counted hs at size to p n ≡ Some (8, at)
+  pub no_header : ¬ ((length hs ≡ 16) × (le4 hs 0 ≡ 8)) → counted hs at size to p n ≡ Some (8, at)
   unfolding counted
-  head_short h = rw (ne_eqb (length hs) 16 h)
+  no_header h = elim (cases_eq (length hs) 16) [
+    | inl l ↦ rw (eq-eqb (length hs) 16 l, ne_eqb (le4 hs 0) 8 (λ e. h (l, e)))
+    | inr l ↦ rw (ne_eqb (length hs) 16 l)
+  ]
 
   module _ (l : length hs ≡ 16) where
-    pub field_size : ¬ (le4 hs 0 ≡ 8) → counted hs at size to p n ≡ Some (8, at)
-    unfolding counted
-    field_size h = rw (eq-eqb (length hs) 16 l, ne_eqb (le4 hs 0) 8 h)
-
     module _ (f : le4 hs 0 ≡ 8) where
       pub other_size : ¬ (size ≡ le4 hs 12 * 8) → counted hs at size to p n ≡ Some (8, to)
       unfolding counted

@@ -1,26 +1,27 @@
 // An assignment file, read into a table.
-ghost use Rattle.std.specs.Prelude.{◌≡◌, ◌+◌, ◌*◌, ◌≤◌, map, length, None};
+ghost use Rattle.std.specs.Prelude.{◌≡◌, ◌*◌, map, length, None};
 ghost use Rattle.field.specs.Operations.{ones};
 ghost use Rattle.assignments.specs.Assigned.{valued, values};
 ghost use Rattle.assignments.specs.Read.{Checked, Reads};
 
-use crate::checks::{checked, value_at};
+use crate::checks::checked;
 use field::field::Field;
 use field::file_field::FileField;
+use frames::number::long;
 use refusal::reason::Refusal;
 use refusal::refused::Refused;
 
-// The values from a place on, as elements.
-fn fill<F: FileField>(bytes: &[u8], from: usize, table: &mut [F])
-    requires { (from + length table.old * 8 ≤ length bytes.now) × (valued bytes.now F.prime (length table.old) from ≡ None) }
-    ensures { table.new ≡ map (ones F.ops) (values bytes.now (length table.old) from) }
+// The values of a payload, as elements.
+fn fill<F: FileField>(payload: &[u8], table: &mut [F])
+    requires { (length payload.now ≡ length table.old * 8) × (valued payload.now F.prime (length table.old) 0 ≡ None) }
+    ensures { table.new ≡ map (ones F.ops) (values payload.now (length table.old) 0) }
 {
-    for i in 0..table.len() {
-        // every value is below the prime
-        let Some(x) = F::element(value_at(bytes, from + 8 * i)) else {
-            return;
-        };
-        table[i] = x;
+    let mut rest = payload;
+    for place in table.iter_mut() {
+        // there is a value for each place, and it is below the prime
+        let (value, after) = long(rest).unwrap();
+        *place = F::element(value).unwrap();
+        rest = after;
     }
 }
 
@@ -32,8 +33,8 @@ fn filled<F: FileField>(bytes: &[u8], table: &mut [F]) -> Result<(), Refused>
     if places < 1 || places > 3072 {
         return Err(Refusal::WrongLength.at(0));
     }
-    let from = checked(bytes, F::prime(), places)?;
-    fill(bytes, from, table);
+    let payload = checked(bytes, F::prime(), places)?;
+    fill(payload, table);
     Ok(())
 }
 
