@@ -4,13 +4,15 @@ use Rattle.std.specs.List.{AllByRecursion}
 use Rattle.frames.specs.Little.{le4, le8, part}
 use Rattle.frames.specs.Checks.{place_of}
 use Rattle.constraints.specs.declared.header.Header.{Header}
+use Rattle.constraints.specs.declared.item.Item.{Item}
+use Rattle.constraints.specs.declared.item.reader.ItemReader.{ItemReader}
 use Rattle.constraints.specs.declared.row.Row.{Row}
 use Rattle.constraints.specs.declared.reader.RowReader.{RowReader}
 use Rattle.refusal.specs.Due.{Decided}
 use Rattle.refusal.specs.declared.refused.Refused.{Refused}
-use Rattle.constraints.specs.Lists.{rest_of}
+use Rattle.constraints.specs.Lists.{first_of, rest_of}
 use Rattle.constraints.specs.Opened.{beyond, header, rows_at, rows_stop, opened}
-use Rattle.constraints.specs.Circuit.{Line, Circuit, item_bytes, row_bytes, Encodes}
+use Rattle.constraints.specs.Circuit.{Line, Circuit, item_bytes, row_bytes, Encodes, Small, TakesItem}
 
 -- the numbers of a header of 40 bytes
 pub record Tells (h : Header) (hs : List ℕ) : Type 0 where
@@ -99,3 +101,14 @@ Takes s r t =
 -- a reader before these rows: it hands out the first, and then stands before the others
 abbrev pub TakesFirst : List Line → Option Row → RowReader → Type 0
 TakesFirst ls r t = MatchOption r (ls ≡ []) (λ w. First ls w × Ahead t (rest_of ls))
+
+-- what a call of `next` does: the reader stays over the same rows; `row` holds of any reader, `read` of one that stands before the rows of a circuit
+pub record HandsRow (s : RowReader) (r : Option Row) (t : RowReader) : Type 0 where
+  pub kept : again t ≡ again s
+  pub row : Takes s r t
+  pub read : (ls : List Line) → Ahead s ls → TakesFirst ls r t
+
+-- the same of the items of a part: `bytes` holds of any bytes, `items` of those that a list of items was written to
+pub record HandsItem (s : ItemReader) (r : Option Item) (t : ItemReader) : Type 0 where
+  pub bytes : TakesItem s.rest.now r t.rest.now
+  pub items : (is : List Item) → Small is → s.rest.now ≡ item_bytes is → (r ≡ first_of is) × (t.rest.now ≡ item_bytes (rest_of is))

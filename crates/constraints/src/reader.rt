@@ -1,8 +1,7 @@
 // A constraint file, opened: its header's numbers, and its rows in order.
-ghost use Rattle.std.specs.Prelude.{◌≡◌, ◌<◌, ◌≤◌, List, length, MatchOption, ⊤};
-ghost use Rattle.std.specs.Iterator.{at_most, MakesProgress};
-ghost use Rattle.constraints.specs.Circuit.{Line};
-ghost use Rattle.constraints.specs.Reader.{Checked, ReadsCircuit, after_row, Parts, again, Takes, Ahead, TakesFirst};
+ghost use Rattle.std.specs.Prelude.{◌≡◌, ◌<◌, ◌≤◌, length, MatchOption};
+ghost use Rattle.std.specs.Iterator.{at_most};
+ghost use Rattle.constraints.specs.Reader.{Checked, ReadsCircuit, after_row, Parts, again, HandsRow};
 
 use crate::header::Header;
 use crate::row::Row;
@@ -68,18 +67,11 @@ fn row_at(bytes: &[u8], at: usize, stop: usize) -> Option<(Row<'_>, usize)>
 impl<'a> Iterator for RowReader<'a> {
     type Item = Row<'a>;
 
-    ghost next_gives = { λ s r t. (again t ≡ again s) × Takes s r t };
+    ghost next_gives = { HandsRow };
 
     ghost remaining = { λ s. at_most s.left };
 
-    // The next row. `row` holds of any reader; `read` of one that stands before the rows of a circuit.
-    fn next(&mut self) -> Option<Row<'a>>
-        ensures kept { again self.new ≡ again self.old }
-        ensures row { Takes self.old result self.new }
-        ensures read { (ls : List Line) → Ahead self.old ls → TakesFirst ls result self.new }
-        ensures steps { (again self.new ≡ again self.old) × Takes self.old result self.new }
-        ensures goes { MakesProgress (λ _. ⊤) (λ s. at_most s.left) self.old result self.new }
-    {
+    fn next(&mut self) -> Option<Row<'a>> {
         if self.left == 0 || self.stop > self.bytes.len() || self.at > self.stop {
             return None;
         }

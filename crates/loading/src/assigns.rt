@@ -4,9 +4,7 @@ ghost use Rattle.loading.specs.Assigns.{NumbersAssign, ReadingAssigns};
 use field::field::Field;
 use field::file_field::FileField;
 
-pub fn reading_assigns<F: FileField>() -> u8
+pub fn reading_assigns<F: FileField>()
     ensures numbers { NumbersAssign F.ops }
     ensures reading { ReadingAssigns F.ops F.prime }
-{
-    0
-}
+{}

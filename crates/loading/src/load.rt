@@ -28,15 +28,13 @@ fn check_numbers<F: FileField>(
     if header.prime != F::prime() {
         return Err(Refusal::OtherPrime.at(prime_at));
     }
-    let Ok(publics) = u32::try_from(header.public()) else {
-        return Err(Refusal::OutOfLimits.at(0));
-    };
+    let publics = u32::try_from(header.public()).map_err(|_| Refusal::OutOfLimits.at(0))?;
     let counts = Counts {
         wires: header.wires,
         publics,
         rows: header.rows,
     };
-    let _ = plan::<F>(counts)?;
+    plan::<F>(counts)?;
     if values != header.wires as usize || entries != TABLE_SIZE {
         return Err(Refusal::WrongLength.at(0));
     }

@@ -42,8 +42,7 @@ fn enter_list<F: FileField>(
 )
     ensures { EntersAll F.ops head.old entries.old (list_entries F.ops matrix row (below F.prime (items_of part.now))) head.new entries.new }
 {
-    let mut items = ItemReader::new(part);
-    while let Some(item) = items.next() {
+    for item in ItemReader::new(part) {
         enter_item(head, entries, matrix, row, item);
     }
 }

@@ -10,6 +10,3 @@ invariant-loop-item l =
     × ((xs : List ℕ) (n : ℕ) → length l.list ≡ 12 * n → l.list ≡ part xs l.from (12 * n)
     → (m : ℕ) × (length l.item-iterator.rest.now ≡ 12 * m) × (l.item-iterator.rest.now ≡ part xs l.at (12 * m))
     × (items xs l.header.wires l.header.prime n l.from ≡ items xs l.header.wires l.header.prime m l.at))
-
-abbrev pub decreases-loop-item : goal.decreases-loop-item
-decreases-loop-item l = length l.item-iterator.rest.now
