@@ -1,7 +1,7 @@
 -- What appending comes to.
-use Rattle.std.proofs.Common.{◌≡◌, refl, ℕ, ◌+◌, ◌≤◌, List, [], ◌++◌, length, take, drop, sym, ap, ◌∙◌, append_assoc, append-nil, arith, length-append, length-take-le, take-append-drop, drop-drop, take_at, drop_at}
+use Rattle.std.proofs.Common.{◌≡◌, refl, ℕ, ◌+◌, ◌≤◌, List, [], ◌++◌, length, take, drop, sym, ap, ◌∙◌, append_assoc, append-nil, arith, length-append, length-drop, length-take-le, take-append-drop, drop-drop, take_at, drop_at}
 use Rattle.writing.specs.Put.{Put}
-use Rattle.writing.specs.Written.{written, rest, Appends}
+use Rattle.writing.specs.Written.{written, rest, Appends, Fills}
 use Rattle.writing.specs.declared.writer.Writer.{Writer}
 
 module _ (a b ys : List ℕ) (at : ℕ) (h : at + length ys ≤ length a) (p : Put a at ys b) where
@@ -29,6 +29,22 @@ appends_both x y z ys zs p q = record {
 
 pub appends_same : (x y : Writer) (ys zs : List ℕ) → ys ≡ zs → Appends x ys y → Appends x zs y
 appends_same x y ys zs e p = rw e at p
+
+-- ── Where there is room ──
+
+pub fills_none : (w : Writer) → Fills w [] w
+fills_none w = λ _. appends_none w
+
+-- one after another; the room for both is room for each
+pub fills_both : (x y z : Writer) (ys zs : List ℕ) → Fills x ys y → Fills y zs z → Fills x (ys ++ zs) z
+fills_both x y z ys zs p q = λ room.
+    let all = length-append ys zs in
+    let first = p (omega arith) in
+    let left = ap length first.behind ∙ length-drop (length ys) (rest x) in
+    appends_both x y z ys zs first (q (omega arith))
+
+pub fills_same : (x y : Writer) (ys zs : List ℕ) → ys ≡ zs → Fills x ys y → Fills x zs y
+fills_same x y ys zs e p = rw e at p
 
 -- from a fresh writer on: the bytes, and what stood behind them in the buffer
 pub appends_all : (x y : Writer) (ys old : List ℕ) → written x ≡ [] → rest x ≡ old → Appends x ys y → y.buffer.now ≡ ys ++ drop (length ys) old

@@ -14,6 +14,10 @@ pub record Appends (old : Writer) (ys : List ℕ) (new : Writer) : Type 0 where
   pub text : written new ≡ written old ++ ys
   pub behind : rest new ≡ drop (length ys) (rest old)
 
--- the bytes are written where there is room for them, and nothing is changed where there is none
+-- the bytes are written where there is room for them
+abbrev pub Fills : Writer → List ℕ → Writer → Type 0
+Fills old ys new = length ys ≤ length (rest old) → Appends old ys new
+
+-- and nothing is changed where there is none
 abbrev pub Writes : Writer → List ℕ → Writer → Type 0
-Writes old ys new = (length ys ≤ length (rest old) → Appends old ys new) × (length (rest old) < length ys → new ≡ old)
+Writes old ys new = Fills old ys new × (length (rest old) < length ys → new ≡ old)

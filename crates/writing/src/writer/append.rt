@@ -52,13 +52,38 @@ impl<'a> Writer<'a> {
         self.put(&long.to_le_bytes());
     }
 
+    // A 4-byte number and an 8-byte number.
+    fn put_pair(&mut self, word: u32, long: u64)
+        ensures { Writes self.old (little 4 word ++ little 8 long) self.new }
+    {
+        if self.room() >= 12 {
+            self.put_word(word);
+            self.put_long(long);
+        }
+    }
+
     // An item of a list: a wire, and its coefficient's number.
     pub fn put_item(&mut self, wire: u32, coefficient: u64)
         ensures { Writes self.old (little 4 wire ++ little 8 coefficient) self.new }
     {
+        self.put_pair(wire, coefficient);
+    }
+
+    // The start of a file: which format, and how many sections there are.
+    pub fn put_start(&mut self, magic: u32, version: u32, sections: u32)
+        ensures { Writes self.old (little 4 magic ++ (little 4 version ++ little 4 sections)) self.new }
+    {
         if self.room() >= 12 {
-            self.put_word(wire);
-            self.put_long(coefficient);
+            self.put_word(magic);
+            self.put_word(version);
+            self.put_word(sections);
         }
+    }
+
+    // The head of a section: its kind, and the size of what follows.
+    pub fn put_head(&mut self, kind: u32, size: usize)
+        ensures { Writes self.old (little 4 kind ++ little 8 size) self.new }
+    {
+        self.put_pair(kind, size as u64);
     }
 }
