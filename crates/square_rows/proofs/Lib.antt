@@ -1,3 +1,4 @@
 pub mod Weighted
 pub mod Places
 pub mod Sides
+pub mod TermLists

@@ -12,6 +12,21 @@ module _ {F : Type 0} (O : Operations F) where
 
   infixl 60 ◌⊕◌
   infixl 70 ◌⊗◌
+  abbrev pub term : ℕ → F → Term F
+  term w x = record { wire = w; coefficient = x }
+
+  -- one that adds nothing
+  abbrev pub no_term : Term F
+  no_term = term 0 𝟘
+
+  -- a term and the entries of a product row, those of A times a, of B times b and of C times c
+  abbrev pub of_row : Term F → ℕ → (a b c : F) → Combination F
+  of_row t row a b c = record { first = t; second = no_term; row = row; a = a; b = b; c = c }
+
+  -- two terms alone
+  abbrev pub of_terms : Term F → Term F → Combination F
+  of_terms t u = record { first = t; second = u; row = 0; a = 𝟘; b = 𝟘; c = 𝟘 }
+
   -- what an entry of a matrix counts for
   abbrev pub matrix_factor : Combination F → ℕ → F
   matrix_factor k matrix = only O matrix 0 k.a ⊕ only O matrix 1 k.b ⊕ only O matrix 2 k.c

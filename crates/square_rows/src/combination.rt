@@ -12,5 +12,5 @@ pub struct Combination<F> {
     c: F,
 }
 
-pub mod scan;
 pub mod sides;
+pub mod terms;

@@ -1,13 +1,13 @@
 use Rattle.std.proofs.Common.{sym, ◌∙◌, ⊎_elim, arith}
 use Rattle.sheet.specs.Outcomes.{shape_of}
 use Rattle.square_rows.proofs.Weighted.{weighted_elsewhere, weighted_outside, weighted_here, none_private, none_public}
-use Rattle.square_rows.proofs.combination.Combination.entry_from.Goals as goal
+use Rattle.square_rows.proofs.combination.terms.Terms.entry_from.Goals as goal
 
 pub returns-then-e-row : goal.returns-then-e-row
 returns-then-e-row g c =
     let L = g.met.F.Field.laws in
-    let S = shape_of c.args.head.now in
-    let k = c.args.self.now in
+    let S = shape_of c.args.self.now.head.now in
+    let k = c.args.self.now.combination.now in
     record {
       within = (omega arith, omega arith);
       passed = λ w _ _. ⊎_elim (λ h. weighted_elsewhere L S k w c.args.e h) (λ h. weighted_outside L S k w c.args.e (omega (arith, h.1))) c.then-e-row.either;
@@ -16,8 +16,8 @@ returns-then-e-row g c =
 pub returns-then-wire-publics : goal.returns-then-wire-publics
 returns-then-wire-publics g c =
     let L = g.met.F.Field.laws in
-    let S = shape_of c.args.head.now in
-    let k = c.args.self.now in
+    let S = shape_of c.args.self.now.head.now in
+    let k = c.args.self.now.combination.now in
     let e = c.args.e in
     record {
       within = (omega (arith, c.wire_from.ensures.within), omega (arith, c.wire_from.ensures.within));
@@ -29,8 +29,8 @@ returns-then-wire-publics g c =
 pub returns : goal.returns
 returns g c =
     let L = g.met.F.Field.laws in
-    let S = shape_of c.args.head.now in
-    let k = c.args.self.now in
+    let S = shape_of c.args.self.now.head.now in
+    let k = c.args.self.now.combination.now in
     let e = c.args.e in
     record {
       within = (omega arith, omega arith);

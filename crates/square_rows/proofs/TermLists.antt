@@ -4,18 +4,15 @@ use Rattle.field.specs.Operations.{Operations}
 use Rattle.square.specs.Rows.{when◌then◌else◌}
 use Rattle.square.proofs.Branches.{if_yes, if_no, if_cases}
 use Rattle.square_rows.specs.declared.term.Term.{Term}
-use Rattle.square_rows.specs.Combined.{FirstTerm}
-use Rattle.square_file.specs.Terms.{terms}
+use Rattle.square_rows.specs.Combined.{term, FirstTerm}
+use Rattle.square_rows.specs.Terms.{terms}
 
 module _ {F : Type 0} (O : Operations F) where
-  abbrev pub term : ℕ → F → Term F
-  term w x = record { wire = w; coefficient = x }
-
   terms_none : (n w : ℕ) (f : ℕ → F) → f w ≡ O.zero → terms O (suc n) w f ≡ terms O n (w + 1) f
   unfolding terms
   terms_none n w f e = if_yes (O.same (f w) O.zero) _ _ e
 
-  terms_one : (n w : ℕ) (f : ℕ → F) → ¬ (f w ≡ O.zero) → terms O (suc n) w f ≡ term w (f w) ∷ terms O n (w + 1) f
+  terms_one : (n w : ℕ) (f : ℕ → F) → ¬ (f w ≡ O.zero) → terms O (suc n) w f ≡ term O w (f w) ∷ terms O n (w + 1) f
   unfolding terms
   terms_one n w f e = if_no (O.same (f w) O.zero) _ _ e
 
@@ -41,7 +38,7 @@ module _ {F : Type 0} (O : Operations F) where
         ∙ unfold terms in refl
 
     pub ahead_first : (from w : ℕ) (x : F) → from ≤ w → w < M → x ≡ f w → ¬ (x ≡ O.zero) → ((v : ℕ) → from ≤ v → v < w → f v ≡ O.zero)
-        → ahead from ≡ term w x ∷ ahead (w + 1)
+        → ahead from ≡ term O w x ∷ ahead (w + 1)
     ahead_first from w x a b e other h =
         let size : M - from ≡ w - from + suc (M - (w + 1)) = omega arith in
         let place : from + (w - from) ≡ w = omega arith in
@@ -49,7 +46,7 @@ module _ {F : Type 0} (O : Operations F) where
         ∙ skipped (w - from) (suc (M - (w + 1))) from f (λ v c d. h v c (omega arith))
         ∙ ap (λ k. terms O (suc (M - (w + 1))) k f) place
         ∙ terms_one (M - (w + 1)) w f (λ z. other (e ∙ z))
-        ∙ ap (λ t. term w t ∷ ahead (w + 1)) (sym e)
+        ∙ ap (λ t. term O w t ∷ ahead (w + 1)) (sym e)
 
     -- as `next_term` tells them
     pub ahead_next : (from : ℕ) (t : Term F) → FirstTerm O M from f (Some t) → ahead from ≡ t ∷ ahead (t.wire + 1)
@@ -59,8 +56,8 @@ module _ {F : Type 0} (O : Operations F) where
   unfolding terms
   terms_ext zero from f g h = refl
   terms_ext (suc n) from f g h =
-      ap (λ x. when O.same x O.zero then terms O n (from + 1) f else term from x ∷ terms O n (from + 1) f) (h from)
-      ∙ ap (λ l. when O.same (g from) O.zero then l else term from (g from) ∷ l) (terms_ext n (from + 1) f g h)
+      ap (λ x. when O.same x O.zero then terms O n (from + 1) f else term O from x ∷ terms O n (from + 1) f) (h from)
+      ∙ ap (λ l. when O.same (g from) O.zero then l else term O from (g from) ∷ l) (terms_ext n (from + 1) f g h)
 
   -- no more terms than wires
   pub terms_most : (n from : ℕ) (f : ℕ → F) → length (terms O n from f) ≤ n
@@ -68,4 +65,4 @@ module _ {F : Type 0} (O : Operations F) where
   terms_most zero from f = omega arith
   terms_most (suc n) from f =
       let rest : length (terms O n (from + 1) f) ≤ n = terms_most n (from + 1) f in
-      if_cases (λ l. length l ≤ suc n) (O.same (f from) O.zero) (terms O n (from + 1) f) (term from (f from) ∷ terms O n (from + 1) f) (λ _. omega arith) (λ _. omega arith)
+      if_cases (λ l. length l ≤ suc n) (O.same (f from) O.zero) (terms O n (from + 1) f) (term O from (f from) ∷ terms O n (from + 1) f) (λ _. omega arith) (λ _. omega arith)

@@ -1,7 +1,7 @@
 use Rattle.std.proofs.Common.{◌∙◌, arith}
 use Rattle.sheet.specs.Outcomes.{shape_of}
 use Rattle.square_rows.proofs.Weighted.{at_itself, none_private, at_p, at_q, none_public}
-use Rattle.square_rows.proofs.combination.scan.at_image.Goals as goal
+use Rattle.square_rows.proofs.combination.terms.scan.at_image.Goals as goal
 
 pub returns-then-w-wire : goal.returns-then-w-wire
 returns-then-w-wire g c = at_itself g.met.F.Field.laws (shape_of c.args.head.now) c.args.x c.args.wire c.args.w (omega arith) (omega arith)

@@ -1,8 +1,0 @@
-use Rattle.std.proofs.Common.{◌≡◌, take}
-use Rattle.sheet.specs.Outcomes.{shape_of}
-use Rattle.square.specs.Rows.{position}
-use Rattle.square_rows.specs.Combined.{combined}
-use Rattle.square_rows.proofs.combination.Combination.coefficient.Given as goal
-
-abbrev pub invariant-loop-e : goal.invariant-loop-e
-invariant-loop-e g l = let O = g.F.Field.ops in l.sum ≡ combined O (shape_of l.head) (position O (take l.e-index l.used)) l.self l.w
