@@ -13,11 +13,13 @@ use Rattle.square_rows.specs.declared.term.Term.{Term}
 use Rattle.writing.specs.Plain.{is_plain}
 use Rattle.writing.proofs.Numbered.{numbered_right}
 use Rattle.constraints.specs.Circuit.{Line, header_bytes, Below, Encodes}
-use Rattle.square_file.specs.Terms.{terms, all_plain, item, items}
+use Rattle.square_rows.specs.Terms.{terms}
+use Rattle.square_rows.specs.Combined.{term}
+use Rattle.square_rows.proofs.TermLists.{terms_most}
+use Rattle.square_file.specs.Terms.{all_plain, item, items}
 use Rattle.square_file.specs.SquareFile.{block, left_terms, right_terms, line, plain_rows, label_bytes, square_circuit, square_file_bytes}
-use Rattle.square_file.proofs.TermLists.{term, terms_most}
 use Rattle.square_file.proofs.RowLists.{first_rows}
-use Rattle.square_file.proofs.PutLists.{length_labels}
+use Rattle.square_file.proofs.Labels.{length_labels}
 use Rattle.square_file.proofs.FileParts.{length_header}
 
 all_table : {X : Type 0} (P : X → Type 0) (n : ℕ) (f : ℕ → X) → ((i : ℕ) → i < n → P (f i)) → AllByRecursion P (table n f)

@@ -1,7 +1,6 @@
 pub mod Cases
-pub mod TermLists
 pub mod RowLists
-pub mod PutLists
+pub mod Labels
 pub mod FileParts
 pub mod Encoded
 pub mod Dues

@@ -1,5 +1,5 @@
 -- The bytes of the rows, row by row.
-use Rattle.std.proofs.Common.{◌≡◌, ℕ, zero, suc, ◌+◌, ◌*◌, ◌≤◌, Bool, true, false, ◌&&◌, List, [], ◌∷◌, ◌++◌, length, refl, ap, ◌∙◌, append_assoc, append-nil, add-one, arith, length-append}
+use Rattle.std.proofs.Common.{◌≡◌, ℕ, zero, suc, ◌+◌, ◌*◌, Bool, true, false, ◌&&◌, List, [], ◌∷◌, ◌++◌, length, refl, ap, ◌∙◌, append_assoc, append-nil, add-one, arith, length-append}
 use lib.ListN.{length-map}
 use Rattle.field.specs.Operations.{Operations}
 use Rattle.transform.specs.Polynomial.{table}
@@ -65,12 +65,6 @@ module _ {F : Type 0} (O : Operations F) (p : ℕ) where
 
     pub length_more : (r : ℕ) → length (first_rows (r + 1)) ≡ length (first_rows r) + length (row_bytes (line O p S c r ∷ []))
     length_more r = ap length (rows_more r) ∙ length-append (first_rows r) (row_bytes (line O p S c r ∷ []))
-
-    pub rows_within : (d r : ℕ) → length (first_rows r) ≤ length (first_rows (r + d))
-    rows_within zero r = let e : r + 0 ≡ r = omega arith in rw e (omega arith)
-    rows_within (suc d) r =
-        let e : r + suc d ≡ r + d + 1 = omega arith in
-        rw e (omega (arith, rows_within d r, length_more (r + d)))
 
     abbrev P : ℕ → Bool
     P = plain_rows O p S c

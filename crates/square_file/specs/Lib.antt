@@ -1,4 +1,5 @@
 pub mod Terms
 pub mod SquareFile
+pub mod Programs
 pub mod Measured
 pub mod Outcomes

@@ -9,7 +9,8 @@ use Rattle.frames.specs.Little.{little}
 use Rattle.frames.specs.Sections.{Block, file_bytes}
 use Rattle.constraints.specs.Opened.{magic}
 use Rattle.constraints.specs.Circuit.{Line, Circuit, header_bytes, row_bytes}
-use Rattle.square_file.specs.Terms.{terms, all_plain, items}
+use Rattle.square_rows.specs.Terms.{terms}
+use Rattle.square_file.specs.Terms.{all_plain, items}
 
 abbrev pub block : ℕ → List ℕ → Block
 block kind payload = record { kind = kind; payload = payload }

@@ -4,4 +4,5 @@
 mod bytes;
 mod file;
 mod measure;
+mod program;
 pub mod writer;

@@ -1,8 +1,7 @@
 // The square program of a sheet as a constraint file.
 ghost use Rattle.square_file.specs.Outcomes.{Written, Readable};
 
-use crate::file::write_file;
-use crate::measure::rows_size;
+use crate::program::Program;
 use field::field::Field;
 use field::file_field::FileField;
 use refusal::reason::Refusal;
@@ -29,7 +28,8 @@ pub fn write_program<F: FileField>(
     if !are_inside(head, used) {
         return Err(Refusal::Inconsistent.at(0));
     }
-    let Some(size) = rows_size(head, used) else {
+    let program = Program { head, used };
+    let Some(size) = program.rows_size() else {
         return Err(Refusal::NotANumber.at(0));
     };
     // the start, the three heads and the header take 88 bytes
@@ -37,6 +37,6 @@ pub fn write_program<F: FileField>(
     if out.len() < length {
         return Err(Refusal::BufferTooShort.at(0));
     }
-    write_file(head, used, size, out);
+    program.write(out, size);
     Ok(length)
 }

@@ -1,5 +1,7 @@
 -- The terms of a linear combination, from one to the next.
 use Rattle.std.proofs.Common.{◌≡◌, ℕ, zero, suc, ◌+◌, ◌-◌, ◌<◌, ◌≤◌, List, [], ◌∷◌, length, Some, sym, refl, ap, ◌∙◌, ap₂, add-zero, zero-add, arith}
+use native.Mathlib.Decide.{dec_le}
+use Rattle.std.specs.List.{AllByRecursion}
 use Rattle.field.specs.Operations.{Operations}
 use Rattle.square.specs.Rows.{when◌then◌else◌}
 use Rattle.square.proofs.Branches.{if_yes, if_no, if_cases}
@@ -26,6 +28,14 @@ module _ {F : Type 0} (O : Operations F) where
       ∙ skipped d n (from + 1) f (λ w a b. h w (omega arith) (omega arith))
       ∙ ap (λ k. terms O n k f) place
 
+  terms_below : (M n from : ℕ) (f : ℕ → F) → from + n ≤ M → AllByRecursion (λ t. t.wire < M) (terms O n from f)
+  unfolding terms
+  terms_below M zero from f h = tt
+  terms_below M (suc n) from f h =
+      let rest = terms_below M n (from + 1) f (omega arith) in
+      if_cases (AllByRecursion (λ t. t.wire < M)) (O.same (f from) O.zero) (terms O n (from + 1) f) (term O from (f from) ∷ terms O n (from + 1) f)
+      (λ _. rest) (λ _. (omega arith, rest))
+
   module _ (M : ℕ) (f : ℕ → F) where
     -- the terms from a wire on
     abbrev pub ahead : ℕ → List (Term F)
@@ -51,6 +61,14 @@ module _ {F : Type 0} (O : Operations F) where
     -- as `next_term` tells them
     pub ahead_next : (from : ℕ) (t : Term F) → FirstTerm O M from f (Some t) → ahead from ≡ t ∷ ahead (t.wire + 1)
     ahead_next from t h = ahead_first from t.wire t.coefficient h.0 h.1 h.2 h.3 h.4
+
+    -- each on a wire below M
+    pub ahead_below : (from : ℕ) → AllByRecursion (λ t. t.wire < M) (ahead from)
+    ahead_below from =
+        elim (dec_le from M) [
+          | yes h ↦ terms_below M (M - from) from f (omega arith)
+          | no h ↦ let none : ahead from ≡ [] = ahead_none from (λ w a b. absurd (omega arith)) in rw none tt
+        ]
 
   pub terms_ext : (n from : ℕ) (f g : ℕ → F) → ((w : ℕ) → f w ≡ g w) → terms O n from f ≡ terms O n from g
   unfolding terms

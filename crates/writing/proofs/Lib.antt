@@ -1,3 +1,4 @@
 pub mod Littles
 pub mod Writers
 pub mod Numbered
+pub mod Files

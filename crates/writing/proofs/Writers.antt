@@ -18,11 +18,12 @@ module _ (a b ys : List ℕ) (at : ℕ) (h : at + length ys ≤ length a) (p : P
   put_behind = ap (λ z. drop (at + length ys) z) whole ∙ drop_at (take at a ++ ys) (drop (at + length ys) a) (at + length ys) reach ∙ sym (drop-drop (length ys) at a)
 
 pub appends_none : (w : Writer) → Appends w [] w
-appends_none w = record { text = sym (append-nil (written w)); behind = refl }
+appends_none w = record { buffer = refl; text = sym (append-nil (written w)); behind = refl }
 
 -- one after another
 pub appends_both : (x y z : Writer) (ys zs : List ℕ) → Appends x ys y → Appends y zs z → Appends x (ys ++ zs) z
 appends_both x y z ys zs p q = record {
+  buffer = q.buffer ∙ p.buffer;
   text = q.text ∙ ap (λ t. t ++ zs) p.text ∙ append_assoc (written x) ys zs;
   behind = q.behind ∙ ap (λ t. drop (length zs) t) p.behind ∙ drop-drop (length zs) (length ys) (rest x) ∙ ap (λ n. drop n (rest x)) (sym (length-append ys zs));
 }

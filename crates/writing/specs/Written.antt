@@ -9,8 +9,9 @@ written w = take w.len w.buffer.now
 abbrev pub rest : Writer → List ℕ
 rest w = drop w.len w.buffer.now
 
--- these bytes are written behind what was, and all behind them is as it was
+-- these bytes are written behind what was, and all behind them is as it was, in the same buffer
 pub record Appends (old : Writer) (ys : List ℕ) (new : Writer) : Type 0 where
+  pub buffer : new.buffer.ghost_name ≡ old.buffer.ghost_name
   pub text : written new ≡ written old ++ ys
   pub behind : rest new ≡ drop (length ys) (rest old)
 

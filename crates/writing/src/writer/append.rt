@@ -11,6 +11,7 @@ impl<'a> Writer<'a> {
     pub fn new(buffer: &'a mut [u8]) -> Writer<'a>
         ensures written { written result ≡ [] }
         ensures rest { rest result ≡ buffer.old }
+        ensures same { result.buffer.ghost_name ≡ buffer.entry.ghost_name }
     {
         Writer { buffer, len: 0 }
     }

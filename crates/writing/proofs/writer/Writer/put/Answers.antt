@@ -1,4 +1,4 @@
-use Rattle.std.proofs.Common.{◌+◌, ◌≤◌, length, arith, length-drop}
+use Rattle.std.proofs.Common.{refl, ◌+◌, ◌≤◌, length, arith, length-drop}
 use Rattle.writing.proofs.Writers.{put_written, put_behind}
 use Rattle.writing.proofs.writer.Writer.put.Goals as goal
 
@@ -9,6 +9,7 @@ returns-then-bytes-room c =
     let fits : w.len + length c.args.bytes.now ≤ length w.buffer.now = omega (arith, c.args.self.now.inside) in
     let p = c.put.ensures.0 fits in (
       λ _. record {
+        buffer = refl;
         text = put_written w.buffer.now c.put.new.out c.args.bytes.now w.len fits p;
         behind = put_behind w.buffer.now c.put.new.out c.args.bytes.now w.len fits p;
       },

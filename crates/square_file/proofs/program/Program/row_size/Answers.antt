@@ -5,16 +5,16 @@ use Rattle.square.specs.Rows.{position}
 use Rattle.square_file.specs.Terms.{all_plain}
 use Rattle.square_file.specs.SquareFile.{left_terms, right_terms}
 use Rattle.square_file.proofs.Cases.{cases_none}
-use Rattle.square_file.proofs.TermLists.{terms_ext}
+use Rattle.square_rows.proofs.TermLists.{terms_ext}
 use Rattle.square_file.proofs.RowLists.{length_row}
-use Rattle.square_file.proofs.measure.row_size.Goals as goal
+use Rattle.square_file.proofs.program.Program.row_size.Goals as goal
 
 pub returns-in_err-left : goal.returns-in_err-left
 returns-in_err-left g c =
     let O = g.F.Field.ops in
     let p = g.F.FileField.prime in
-    let S = shape_of c.args.head.now in
-    let t = position O c.args.used.now in
+    let S = shape_of c.args.self.now.head.now in
+    let t = position O c.args.self.now.used.now in
     let same = terms_ext O (columns S) 0 _ _ (c.left.ensures t) in
     cases_none c.from_residual.result _ _ c.from_residual.ensures
     (ap (λ b. b && all_plain O p (right_terms O p S t c.args.r)) (ap (all_plain O p) (sym same) ∙ c.in_err-left.ensures))
@@ -23,8 +23,8 @@ pub returns-in_err-right : goal.returns-in_err-right
 returns-in_err-right g c =
     let O = g.F.Field.ops in
     let p = g.F.FileField.prime in
-    let S = shape_of c.args.head.now in
-    let t = position O c.args.used.now in
+    let S = shape_of c.args.self.now.head.now in
+    let t = position O c.args.self.now.used.now in
     let same = terms_ext O (columns S) 0 _ _ (c.left.ensures t) in
     let other = terms_ext O (columns S) 0 _ _ (c.right.ensures t) in
     cases_none c.from_residual-in_err-right.result _ _ c.from_residual-in_err-right.ensures
@@ -34,9 +34,9 @@ pub returns : goal.returns
 returns g c =
     let O = g.F.Field.ops in
     let p = g.F.FileField.prime in
-    let h = c.args.head.now in
+    let h = c.args.self.now.head.now in
     let S = shape_of h in
-    let t = position O c.args.used.now in
+    let t = position O c.args.self.now.used.now in
     let r = c.args.r in
     let same = terms_ext O (columns S) 0 _ _ (c.left.ensures t) in
     let other = terms_ext O (columns S) 0 _ _ (c.right.ensures t) in
