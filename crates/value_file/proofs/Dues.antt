@@ -9,7 +9,7 @@ use Rattle.sheet.specs.Shape.{Shape, columns}
 use Rattle.square.specs.Rules.{starts_with_one}
 use Rattle.value_file.specs.ValueFile.{all_plain, value_file_bytes}
 use Rattle.value_file.specs.Outcomes.{value_file_due}
-use Rattle.value_file.proofs.Parts.{length_file}
+use Rattle.value_file.proofs.Parts.{length_values}
 
 module _ {F : Type 0} (O : Operations F) (p : ℕ) (S : Shape) (vs : List F) where
   pub starts : (x y : F) → 0 < length vs → x ≡ get_or vs 0 x → y ≡ O.one → true ≡ decided (O.same x y) → starts_with_one O S vs ≡ true
@@ -22,7 +22,7 @@ module _ {F : Type 0} (O : Operations F) (p : ℕ) (S : Shape) (vs : List F) whe
 
   module _ (size : length vs ≡ columns S) (first : starts_with_one O S vs ≡ true) (plain : all_plain O p vs ≡ true) (room : ℕ) where
     pub too_short : room < 52 + 8 * length vs → value_file_due O p S vs room ≡ Some (13, 0)
-    too_short h = rw (eq-eqb (length vs) (columns S) size, first, plain, lt-leb (length (value_file_bytes O p vs)) room (omega (arith, length_file O p vs)))
+    too_short h = rw (eq-eqb (length vs) (columns S) size, first, plain, lt-leb (length (value_file_bytes O p vs)) room (omega (arith, length_values O p vs)))
 
     pub nothing_due : 52 + 8 * length vs ≤ room → value_file_due O p S vs room ≡ None
-    nothing_due h = rw (eq-eqb (length vs) (columns S) size, first, plain, le-leb (length (value_file_bytes O p vs)) room (omega (arith, length_file O p vs)))
+    nothing_due h = rw (eq-eqb (length vs) (columns S) size, first, plain, le-leb (length (value_file_bytes O p vs)) room (omega (arith, length_values O p vs)))

@@ -1,5 +1,6 @@
 -- The values of a square program's wires as an assignment file.
-use Rattle.std.specs.Prelude.{ℕ, Bool, true, ◌&&◌, List, [], ◌∷◌, map, length}
+use Rattle.std.specs.Prelude.{ℕ, Bool, List, [], ◌∷◌, map, length}
+use Rattle.std.specs.List.{list_all}
 use Rattle.field.specs.Operations.{Operations}
 use Rattle.frames.specs.Sections.{Block, file_bytes}
 use Rattle.writing.specs.Plain.{numbered, is_plain}
@@ -12,8 +13,7 @@ block kind payload = record { kind = kind; payload = payload }
 module _ {F : Type 0} (O : Operations F) (p : ℕ) where
   -- every value has a number
   abbrev pub all_plain : List F → Bool
-  all_plain [] = true
-  all_plain (x ∷ xs) = is_plain O p x && all_plain xs
+  all_plain vs = list_all (is_plain O p) vs
 
   abbrev pub numbers : List F → List ℕ
   numbers vs = map (numbered O p) vs

@@ -1,7 +1,7 @@
 // The values of every wire of a square program as an assignment file.
 ghost use Rattle.value_file.specs.Outcomes.{Written, Readable, ReadBack};
 
-use crate::bytes::{VALUES_AT, are_plain, write_file};
+use crate::bytes::{VALUES_AT, are_plain, write};
 use assignments::reader::read;
 use field::field::Field;
 use field::file_field::FileField;
@@ -32,7 +32,7 @@ pub fn write_values<F: FileField>(
     if out.len() < size {
         return Err(Refusal::BufferTooShort.at(0));
     }
-    write_file(extended, F::prime(), out);
+    write(extended, F::prime(), out);
     Ok(size)
 }
 
