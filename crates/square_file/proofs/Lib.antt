@@ -1,4 +1,3 @@
-pub mod Cases
 pub mod RowLists
 pub mod Labels
 pub mod FileParts

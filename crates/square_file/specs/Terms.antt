@@ -1,5 +1,6 @@
 -- The items that stand in a file for the terms of a linear combination.
-use Rattle.std.specs.Prelude.{ℕ, Bool, true, ◌&&◌, List, [], ◌∷◌, map}
+use Rattle.std.specs.Prelude.{ℕ, Bool, List, map}
+use Rattle.std.specs.List.{list_all}
 use Rattle.field.specs.Operations.{Operations}
 use Rattle.square_rows.specs.declared.term.Term.{Term}
 use Rattle.writing.specs.Plain.{numbered, is_plain}
@@ -8,8 +9,7 @@ use Rattle.constraints.specs.declared.item.Item.{Item}
 module _ {F : Type 0} (O : Operations F) where
   -- every coefficient has a number below the prime
   abbrev pub all_plain : ℕ → List (Term F) → Bool
-  all_plain p [] = true
-  all_plain p (t ∷ ts) = is_plain O p t.coefficient && all_plain p ts
+  all_plain p ts = list_all (λ t. is_plain O p t.coefficient) ts
 
   abbrev pub item : ℕ → Term F → Item
   item p t = record { wire = t.wire; coefficient = numbered O p t.coefficient }

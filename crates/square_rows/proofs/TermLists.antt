@@ -3,11 +3,14 @@ use Rattle.std.proofs.Common.{◌≡◌, ℕ, zero, suc, ◌+◌, ◌-◌, ◌<�
 use native.Mathlib.Decide.{dec_le}
 use Rattle.std.specs.List.{AllByRecursion}
 use Rattle.field.specs.Operations.{Operations}
+use Rattle.sheet.specs.Shape.{columns}
+use Rattle.sheet.specs.Outcomes.{shape_of}
 use Rattle.square.specs.Rows.{when◌then◌else◌}
 use Rattle.square.proofs.Branches.{if_yes, if_no, if_cases}
 use Rattle.square_rows.specs.declared.term.Term.{Term}
 use Rattle.square_rows.specs.Combined.{term, FirstTerm}
-use Rattle.square_rows.specs.Terms.{terms}
+use Rattle.square_rows.specs.declared.combination.terms.Terms.{Terms}
+use Rattle.square_rows.specs.Terms.{terms, coefficients, terms_left}
 
 module _ {F : Type 0} (O : Operations F) where
   terms_none : (n w : ℕ) (f : ℕ → F) → f w ≡ O.zero → terms O (suc n) w f ≡ terms O n (w + 1) f
@@ -84,3 +87,18 @@ module _ {F : Type 0} (O : Operations F) where
   terms_most (suc n) from f =
       let rest : length (terms O n (from + 1) f) ≤ n = terms_most n (from + 1) f in
       if_cases (λ l. length l ≤ suc n) (O.same (f from) O.zero) (terms O n (from + 1) f) (term O from (f from) ∷ terms O n (from + 1) f) (λ _. omega arith) (λ _. omega arith)
+
+  -- ── What a head's bounds say of them ──
+
+  module _ (t : Terms F) where
+    few_columns : columns (shape_of t.head.now) ≤ 3072
+    few_columns = omega (arith, t.head.now.wires_most, t.head.now.publics_most, t.head.now.rows_most)
+
+    pub few_left : length (terms_left O t) ≤ 3072
+    few_left = omega (arith, terms_most (columns (shape_of t.head.now) - t.from) t.from (coefficients O t), few_columns)
+
+    pub first_below : (x : Term F) (xs : List (Term F)) → terms_left O t ≡ x ∷ xs → x.wire < 3072
+    first_below x xs e =
+        let M = columns (shape_of t.head.now) in
+        let below : AllByRecursion (λ y. y.wire < M) (x ∷ xs) = rw e at (ahead_below M (coefficients O t) t.from) in
+        omega (arith, below.0, few_columns)

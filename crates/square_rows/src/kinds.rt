@@ -22,7 +22,7 @@ fn kind_of_multiple(head: &Head, t: usize) -> RowKind
     }
 }
 
-// Number x among the other rows.
+// Number x among the other rows. Apart from its twin, since one function would take the bound and both kinds, which is no plainer.
 fn kind_of_other(head: &Head, x: usize) -> RowKind
     ensures is { shown result ≡ product_kind (shape_of head.now) x }
     ensures within { Within (shape_of head.now) result }

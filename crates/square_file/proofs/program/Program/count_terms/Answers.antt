@@ -6,7 +6,6 @@ use Rattle.square_rows.proofs.TermLists.{terms_most}
 use Rattle.writing.proofs.Numbered.{some_numbered, none_numbered}
 use Rattle.square_file.specs.Terms.{all_plain}
 use Rattle.square_file.specs.Programs.{shape, entries}
-use Rattle.square_file.proofs.Cases.{cases_none}
 use Rattle.square_file.proofs.program.Program.count_terms.Goals as goal
 
 pub overflow_add-count : goal.overflow_add-count
@@ -22,7 +21,7 @@ returns-in_err-plain_number g c =
     let O = g.F.Field.ops in
     let p = g.F.FileField.prime in
     let none = none_numbered O p c.in-Some.t.coefficient (sym c.in_err-plain_number.ensures) in
-    cases_none c.from_residual.result _ _ c.from_residual.ensures
+    rw c.from_residual.ensures
     (sym c.loop-t.invariant.0 ∙ ap (all_plain O p) c.in-Some.ensures.steps ∙ ap (λ b. b && all_plain O p (terms_left O c.next.new.self)) none)
 
 pub loop-t-preserved : goal.loop-t-preserved

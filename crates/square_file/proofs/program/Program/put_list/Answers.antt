@@ -1,11 +1,8 @@
-use Rattle.std.proofs.Common.{◌≡◌, ◌-◌, ◌<◌, ◌∷◌, ◌++◌, length, ap, sym, ◌∙◌, inl, arith}
+use Rattle.std.proofs.Common.{◌≡◌, ◌++◌, length, ap, sym, ◌∙◌, inl, arith}
 use lib.ListN.{length-map}
 use Rattle.std.proofs.lemmas.Iterator.Consumers.{count_from_yields_List, YieldsList-from_first}
-use Rattle.std.specs.List.{AllByRecursion}
-use Rattle.sheet.specs.Shape.{columns}
-use Rattle.sheet.specs.Outcomes.{shape_of}
-use Rattle.square_rows.specs.Terms.{terms_left, coefficients}
-use Rattle.square_rows.proofs.TermLists.{terms_most, ahead_below}
+use Rattle.square_rows.specs.Terms.{terms_left}
+use Rattle.square_rows.proofs.TermLists.{few_left, first_below}
 use Rattle.frames.specs.Little.{little}
 use Rattle.writing.proofs.Writers.{fills_none, fills_both, fills_same}
 use Rattle.constraints.specs.Circuit.{item_bytes, list_bytes}
@@ -15,25 +12,13 @@ use Rattle.square_file.proofs.Labels.{items_first, no_items}
 use Rattle.square_file.proofs.program.Program.put_list.Goals as goal
 
 pub count-requires-clause-fits : goal.count-requires-clause-fits
-count-requires-clause-fits g c =
-    let t = c.terms.result in
-    let h = t.head.now in
-    inl (omega (arith, terms_most g.F.Field.ops (columns (shape_of h) - t.from) t.from (coefficients g.F.Field.ops t), h.wires_most, h.publics_most, h.rows_most))
+count-requires-clause-fits g c = inl (omega (arith, few_left g.F.Field.ops c.terms.result))
 
 pub overflow_cast-count : goal.overflow_cast-count
-overflow_cast-count g c =
-    let t = c.terms.result in
-    let h = t.head.now in
-    omega (arith, c.count.ensures.bound, terms_most g.F.Field.ops (columns (shape_of h) - t.from) t.from (coefficients g.F.Field.ops t), h.wires_most, h.publics_most, h.rows_most)
+overflow_cast-count g c = omega (arith, c.count.ensures.bound, few_left g.F.Field.ops c.terms.result)
 
 pub overflow_cast-t : goal.overflow_cast-t
-overflow_cast-t g c =
-    let O = g.F.Field.ops in
-    let it = c.loop-t.t-iterator in
-    let h = it.head.now in
-    let M = columns (shape_of h) in
-    let below : AllByRecursion (λ t. t.wire < M) (c.in-Some.t ∷ terms_left O c.next.new.self) = rw c.in-Some.ensures.steps at (ahead_below O M (coefficients O it) it.from) in
-    omega (arith, below.0, h.wires_most, h.publics_most, h.rows_most)
+overflow_cast-t g c = omega (arith, first_below g.F.Field.ops c.loop-t.t-iterator c.in-Some.t _ c.in-Some.ensures.steps)
 
 pub loop-t-preserved : goal.loop-t-preserved
 loop-t-preserved g c =

@@ -4,7 +4,6 @@ use Rattle.sheet.specs.Outcomes.{shape_of}
 use Rattle.square.specs.Rows.{position}
 use Rattle.square_file.specs.Terms.{all_plain}
 use Rattle.square_file.specs.SquareFile.{left_terms, right_terms}
-use Rattle.square_file.proofs.Cases.{cases_none}
 use Rattle.square_rows.proofs.TermLists.{terms_ext}
 use Rattle.square_file.proofs.RowLists.{length_row}
 use Rattle.square_file.proofs.program.Program.row_size.Goals as goal
@@ -16,7 +15,7 @@ returns-in_err-left g c =
     let S = shape_of c.args.self.now.head.now in
     let t = position O c.args.self.now.used.now in
     let same = terms_ext O (columns S) 0 _ _ (c.left.ensures t) in
-    cases_none c.from_residual.result _ _ c.from_residual.ensures
+    rw c.from_residual.ensures
     (ap (λ b. b && all_plain O p (right_terms O p S t c.args.r)) (ap (all_plain O p) (sym same) ∙ c.in_err-left.ensures))
 
 pub returns-in_err-right : goal.returns-in_err-right
@@ -27,7 +26,7 @@ returns-in_err-right g c =
     let t = position O c.args.self.now.used.now in
     let same = terms_ext O (columns S) 0 _ _ (c.left.ensures t) in
     let other = terms_ext O (columns S) 0 _ _ (c.right.ensures t) in
-    cases_none c.from_residual-in_err-right.result _ _ c.from_residual-in_err-right.ensures
+    rw c.from_residual-in_err-right.ensures
     (ap₂ ◌&&◌ (ap (all_plain O p) (sym same) ∙ c.in_ok-left.ensures.0) (ap (all_plain O p) (sym other) ∙ c.in_err-right.ensures))
 
 pub returns : goal.returns

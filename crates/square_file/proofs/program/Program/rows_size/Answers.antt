@@ -4,7 +4,6 @@ use Rattle.sheet.specs.Outcomes.{shape_of}
 use Rattle.square.specs.Rows.{position}
 use Rattle.square.proofs.Heads.{n_same}
 use Rattle.square_file.specs.SquareFile.{plain_rows}
-use Rattle.square_file.proofs.Cases.{cases_none}
 use Rattle.square_file.proofs.RowLists.{first_rows, no_rows, length_more, plain_none, plain_more, plain_fails}
 use Rattle.square_file.proofs.program.Program.rows_size.Goals as goal
 
@@ -18,7 +17,7 @@ returns-in_err-size g c =
     let r = c.loop-r.r in
     let fails : plain_rows O p S t (r + 1) ≡ false = plain_more O p S t r ∙ ap₂ ◌&&◌ c.loop-r.invariant.0 c.in_err-size.ensures in
     let place : r + 1 + (n S - (r + 1)) ≡ n S = omega (arith, n_same h, c.n-r-end.ensures.is, c.loop-r-test.true) in
-    cases_none c.from_residual.result _ _ c.from_residual.ensures
+    rw c.from_residual.ensures
     (ap (plain_rows O p S t) (sym place) ∙ plain_fails O p S t (n S - (r + 1)) (r + 1) fails)
 
 pub loop-r-init : goal.loop-r-init
