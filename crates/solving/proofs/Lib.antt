@@ -1,3 +1,4 @@
 pub mod Solve
 pub mod Filling
 pub mod Files
+pub mod Primes
