@@ -1,8 +1,10 @@
 -- The text of elements, one coordinate and one element after another.
-use Rattle.std.proofs.Common.{◌≡◌, ℕ, zero, suc, ◌+◌, ◌*◌, ◌^◌, ◌<◌, ◌≤◌, ◌≢◌, List, [], ◌∷◌, ◌++◌, map, length, get_or, take, decimal, sym, refl, ap, ◌∙◌, append_assoc, append-nil, mul-le-mul_left, mul-one, mul-add, arith, length-take-le}
+use Rattle.std.proofs.Common.{◌≡◌, ℕ, zero, suc, ◌+◌, ◌*◌, ◌^◌, ◌<◌, ◌≤◌, ◌≢◌, min, List, [], ◌∷◌, ◌++◌, map, length, get_or, take, decimal, sym, refl, ap, ◌∙◌, append_assoc, append-nil, mul-le-mul_left, mul-one, mul-add, arith, length-take-le}
 use mathlib.Core.List.{map-append}
 use Rattle.std.proofs.lemmas.List.{take_more, take_all}
+use Rattle.std.proofs.lemmas.Nat.{pow_pos}
 use Rattle.std.proofs.lemmas.Fmt.{length-decimal-le}
+use Rattle.writing.specs.declared.writer.Writer.{Writer}
 use Rattle.report.specs.Text.{Appended, each_behind, element_text, elements_text, piece}
 use Rattle.report.proofs.Texts.{append_none, append_both}
 
@@ -55,6 +57,11 @@ elements_more f xs i x h e =
     ∙ elements_push (map f (take i xs)) (f (get_or xs i x))
     ∙ ap (λ y. elements_text (map f (take i xs)) ++ (32 ∷ element_text (f y))) (sym e)
 
+pub width_few : (w a : ℕ) → w * min (2 ^ a) 2048 ≤ 2048 → w ≤ 2048
+width_few w a narrow =
+    let some : 1 ≤ min (2 ^ a) 2048 = omega (arith, pow_pos a) in
+    omega (arith, mul-le-mul_left w some, mul-one w)
+
 -- room for one more of n texts of so many bytes
 pub one_more : (w i n : ℕ) → i < n → w * i + w ≤ w * n
 one_more w i n h =
@@ -66,27 +73,24 @@ next w i = mul-add w i 1 ∙ ap (λ t. w * i + t) (mul-one w)
 
 -- ── As the loops append them ──
 
-pub element_start : (a : List ℕ) (at : ℕ) → Appended a at (element_text []) at a
-element_start a at = rw element_none (append_none a at)
+pub element_start : (x : Writer) → Appended x (element_text []) x
+element_start x = rw element_none (append_none x)
 
-pub element_step : (a b c cs : List ℕ) (at m n i v : ℕ) → i < length cs → v ≡ get_or cs i 0
-    → Appended a at (element_text (take i cs)) m b → Appended b m (piece i v) n c → Appended a at (element_text (take (i + 1) cs)) n c
-element_step a b c cs at m n i v h e p q =
-    rw (element_more cs i h) (append_both a b c (element_text (take i cs)) (piece i (get_or cs i 0)) at m n p (rw e at q))
+pub element_step : {x y z : Writer} (cs : List ℕ) (i v : ℕ) → i < length cs → v ≡ get_or cs i 0
+    → Appended x (element_text (take i cs)) y → Appended y (piece i v) z → Appended x (element_text (take (i + 1) cs)) z
+element_step cs i v h e p q = rw (element_more cs i h) (append_both p (rw e at q))
 
-pub element_end : (a b cs : List ℕ) (at m i : ℕ) → length cs ≤ i → Appended a at (element_text (take i cs)) m b → Appended a at (element_text cs) m b
-element_end a b cs at m i h p = rw (take_all i cs h) at p
+pub element_end : {x y : Writer} (cs : List ℕ) (i : ℕ) → length cs ≤ i → Appended x (element_text (take i cs)) y → Appended x (element_text cs) y
+element_end cs i h p = rw (take_all i cs h) at p
 
-pub elements_start : (a : List ℕ) (at : ℕ) → Appended a at (elements_text []) at a
-elements_start a at = rw elements_none (append_none a at)
+pub elements_start : (x : Writer) → Appended x (elements_text []) x
+elements_start x = rw elements_none (append_none x)
 
 module _ {F : Type 0} (f : F → List ℕ) (xs : List F) where
-  pub elements_step : (a b c d : List ℕ) (at m n k i : ℕ) (x : F) → i < length xs → x ≡ get_or xs i x
-      → Appended a at (elements_text (map f (take i xs))) m b → Appended b m (32 ∷ []) n c → Appended c n (element_text (f x)) k d
-      → Appended a at (elements_text (map f (take (i + 1) xs))) k d
-  elements_step a b c d at m n k i x h e p q r =
-      rw (elements_more f xs i x h e)
-      (append_both a b d (elements_text (map f (take i xs))) (32 ∷ element_text (f x)) at m k p (append_both b c d (32 ∷ []) (element_text (f x)) m n k q r))
+  pub elements_step : {w x y z : Writer} (i : ℕ) (e : F) → i < length xs → e ≡ get_or xs i e
+      → Appended w (elements_text (map f (take i xs))) x → Appended x (32 ∷ []) y → Appended y (element_text (f e)) z
+      → Appended w (elements_text (map f (take (i + 1) xs))) z
+  elements_step i e h is p q r = rw (elements_more f xs i e h is) (append_both p (append_both q r))
 
-  pub elements_end : (a b : List ℕ) (at m i : ℕ) → length xs ≤ i → Appended a at (elements_text (map f (take i xs))) m b → Appended a at (elements_text (map f xs)) m b
-  elements_end a b at m i h p = rw (take_all i xs h) at p
+  pub elements_end : {x y : Writer} (i : ℕ) → length xs ≤ i → Appended x (elements_text (map f (take i xs))) y → Appended x (elements_text (map f xs)) y
+  elements_end i h p = rw (take_all i xs h) at p

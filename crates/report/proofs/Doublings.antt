@@ -4,26 +4,27 @@ use lib.Pow.{pow-lt}
 use Rattle.std.proofs.lemmas.Bool.{and_parts, cases_Bool, cases_lt, leb-true}
 use Rattle.sheet.specs.Shape.{Shape, log_of_n, k, n}
 use Rattle.sheet.specs.Rules.{in_limits}
-use Rattle.sheet.specs.Outcomes.{shape}
+use Rattle.sheet.specs.Outcomes.{Answer, shape}
 use Rattle.sheet.proofs.Powers.{log_up_least}
 use Rattle.constraints.specs.declared.reader.RowReader.{RowReader}
 use Rattle.constraints.specs.Circuit.{Circuit}
 use Rattle.constraints.specs.Reader.{again, Starts}
 use Rattle.loading.specs.Loaded.{file_shape, circuit_shape}
+use Rattle.writing.specs.declared.writer.Writer.{Writer}
 use Rattle.report.specs.Outcome.{Surveyed, TellsCircuit}
 use Rattle.report.specs.Means.{field_of, doublings, TellsBy}
+use Rattle.report.proofs.Circuits.{tells_map}
 
 -- the shape by the reader's numbers is the circuit's
 pub same_shape : (s : RowReader) (c : Circuit) → Starts (again s) c → file_shape s.header ≡ circuit_shape c
 same_shape s c starts i = shape (starts.wires i) (1 + starts.outputs i + starts.inputs i) (starts.rows i)
 
 -- the text over the field that was chosen is the text over the field that is to be chosen
-pub tells_by : (prime d : ℕ) (s : RowReader) (ws old : List ℕ) (to : ℕ) (new : List ℕ) → d ≡ doublings prime (file_shape s.header)
-    → TellsCircuit (field_of prime d).ops (field_of prime d).coordinates prime d s ws old to new → TellsBy prime s ws old to new
-tells_by prime d s ws old to new chosen tells c starts proper same =
-    let told = tells c starts proper same in
+pub tells_by : (prime d : ℕ) (s : RowReader) (ws : List ℕ) (old new : Writer) (r : Answer) → d ≡ doublings prime (file_shape s.header)
+    → TellsCircuit (field_of prime d).ops (field_of prime d).coordinates prime d s ws old r new → TellsBy prime s ws old r new
+tells_by prime d s ws old new r chosen tells c starts proper same =
     let right : d ≡ doublings prime (circuit_shape c) = chosen ∙ ap (doublings prime) (same_shape s c starts) in
-    (told.0, subst (λ e. Surveyed (field_of prime e).ops (field_of prime e).coordinates prime e c ws told.0) right told.1, told.2)
+    tells_map (λ o. subst (λ e. Surveyed (field_of prime e).ops (field_of prime e).coordinates prime e c ws o) right) old new r (tells c starts proper same)
 
 -- ── No sheet needs more than 2,048 rows ──
 

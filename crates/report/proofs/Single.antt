@@ -21,7 +21,8 @@ use Rattle.assignments.proofs.Stands.{reads_exactly_lem}
 use Rattle.loading.specs.Loaded.{circuit_shape}
 use Rattle.solving.specs.Taken.{files_model, sheet_due, witness_due}
 use Rattle.report.specs.Outcome.{Outcome, failing, solved, RefusedOr, longest, Answered, Surveyed}
-use Rattle.report.specs.Means.{field_of, doublings, prime_of, ToldBy, OneOutcome}
+use Rattle.solving.specs.Primes.{prime_of}
+use Rattle.report.specs.Means.{field_of, doublings, ToldBy, OneOutcome}
 
 -- one outcome of what follows a check, one outcome of both
 single_or : (due : Due) (o o' : Outcome) (P P' : Type 0) → (P → P' → o ≡ o') → RefusedOr due o P → RefusedOr due o' P' → o ≡ o'

@@ -1,3 +1,4 @@
 pub mod Text
+pub mod Times
 pub mod Outcome
 pub mod Means

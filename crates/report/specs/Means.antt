@@ -1,6 +1,5 @@
 -- The outcome of two files, told from their bytes alone.
-use Rattle.std.specs.Prelude.{◌≡◌, ℕ, zero, suc, ◌-◌, ◌<◌, ◌≤◌, min, cond, List, [], ◌∷◌, ◌++◌, length, drop, Some, None, Result, MatchResult, ◌==◌, nat_le}
-use Rattle.refusal.specs.Due.{Due}
+use Rattle.std.specs.Prelude.{◌≡◌, ℕ, zero, suc, ◌-◌, ◌<◌, ◌≤◌, min, cond, List, [], ◌∷◌, ◌++◌, length, drop, Some, Result, MatchResult, ◌==◌, nat_le}
 use Rattle.refusal.specs.declared.refused.Refused.{Refused}
 use Rattle.field.specs.Operations.{Operations}
 use Rattle.frames.specs.Little.{Bytes}
@@ -12,13 +11,15 @@ use Rattle.quadratic.specs.Interleave.{interleave}
 use Rattle.quadratic.specs.declared.quadratic.Quadratic.{Quadratic}
 use Rattle.sheet.specs.Shape.{Shape, log_of_n}
 use Rattle.sheet.specs.Rules.{in_limits}
+use Rattle.sheet.specs.Outcomes.{Answer}
 use Rattle.constraints.specs.Opened.{opened}
 use Rattle.constraints.specs.declared.reader.RowReader.{RowReader}
 use Rattle.constraints.specs.Circuit.{Circuit, Proper, Encodes}
 use Rattle.constraints.specs.Reader.{again, Starts}
 use Rattle.loading.specs.Loaded.{circuit_shape}
-use Rattle.report.specs.Text.{Appended}
-use Rattle.report.specs.Outcome.{Outcome, RefusedOr, render, longest, Surveyed}
+use Rattle.solving.specs.Primes.{prime_of}
+use Rattle.writing.specs.declared.writer.Writer.{Writer}
+use Rattle.report.specs.Outcome.{Outcome, RefusedOr, render, longest, Surveyed, Tells}
 
 -- ── Fields ──
 
@@ -57,24 +58,15 @@ doublings prime S = cond (in_limits S) (min (log_of_n S - (prime_field prime).op
 
 -- ── Files ──
 
--- a circuit is tried over 97, and over 12289 where that is refused for its prime
-abbrev pub prime_by : Due → ℕ
-prime_by None = 97
-prime_by (Some fault) = cond (fault.0 == 9) 12289 97
-
-abbrev pub prime_of : List ℕ → ℕ
-prime_of xs = prime_by (opened xs 97)
-
 -- the outcome of a circuit over a prime and an assignment file, over the field with the fewest doublings
 abbrev pub ToldBy : (prime : ℕ) → Circuit → List ℕ → Outcome → Type 0
 ToldBy prime c ws o =
     let d = doublings prime (circuit_shape c) in
     Surveyed (field_of prime d).ops (field_of prime d).coordinates prime d c ws o
 
--- the text of that outcome, from the front of a buffer to a place: of an opened constraint file over the prime
-abbrev pub TellsBy : (prime : ℕ) → RowReader → (ws old : List ℕ) (to : ℕ) (new : List ℕ) → Type 0
-TellsBy prime s ws old to new =
-    (c : Circuit) → Starts (again s) c → Proper c → c.prime ≡ prime → (o : Outcome) × ToldBy prime c ws o × Appended old 0 (render o) to new
+-- the text of that outcome, of an opened constraint file over the prime
+abbrev pub TellsBy : (prime : ℕ) → RowReader → (ws : List ℕ) (old : Writer) → Answer → (new : Writer) → Type 0
+TellsBy prime s ws old r new = (c : Circuit) → Starts (again s) c → Proper c → c.prime ≡ prime → Tells (ToldBy prime c ws) old r new
 
 -- the outcome of the bytes xs of a constraint file and ws of an assignment file
 abbrev pub Means : List ℕ → List ℕ → Outcome → Type 0
@@ -85,10 +77,6 @@ Means xs ws o =
 -- bytes have one outcome only, and so one text
 abbrev pub OneOutcome : Type 0
 OneOutcome = (xs ws : List ℕ) (o o' : Outcome) → Bytes xs → Bytes ws → Means xs ws o → Means xs ws o' → o ≡ o'
-
--- the text of the files' outcome, from the front of a buffer to a place
-abbrev pub Composed : (xs ws old : List ℕ) (to : ℕ) (new : List ℕ) → Type 0
-Composed xs ws old to new = (o : Outcome) × Means xs ws o × Appended old 0 (render o) to new
 
 -- ── The call ──
 

@@ -1,11 +1,13 @@
 -- What two files say, and the text that tells it.
-use Rattle.std.specs.Prelude.{◌≡◌, ℕ, true, ◌⊎◌, List, ◌++◌, map, codes, MatchOption}
+use Rattle.std.specs.Prelude.{◌≡◌, ℕ, true, ◌⊎◌, List, ◌++◌, map, codes, MatchOption, MatchResult}
 use Rattle.refusal.specs.Due.{Due}
+use Rattle.refusal.specs.Numbers.{number_of}
 use Rattle.field.specs.Operations.{Operations}
 use Rattle.transform.specs.Polynomial.{coefficient}
 use Rattle.square.specs.Rules.{all_inside}
 use Rattle.frames.specs.Faults.{then}
 use Rattle.sheet.specs.Shape.{n, k}
+use Rattle.sheet.specs.Outcomes.{Answer}
 use Rattle.sheet.specs.Model.{Model, Sheet, Stands}
 use Rattle.constraints.specs.declared.reader.RowReader.{RowReader}
 use Rattle.constraints.specs.Circuit.{Circuit, Proper}
@@ -14,6 +16,7 @@ use Rattle.assignments.specs.Assignment.{Encodes}
 use Rattle.runs.specs.Law.{PublicSum}
 use Rattle.solving.specs.Taken.{files_model, sheet_due, witness_due}
 use Rattle.solving.specs.Solved.{QuotientIs, FailsAt}
+use Rattle.writing.specs.declared.writer.Writer.{Writer}
 use Rattle.report.specs.Text.{Appended, numbers_line, elements_line}
 
 pub data Outcome : Type 0 where
@@ -42,6 +45,14 @@ render (refused number place) = refused_line number place
 render (failing p d n k row) = sheet_lines p d n k ++ refused_line 7 row
 render (solved p d n k quotient public) = sheet_lines p d n k ++ (elements_line (codes "quotient") quotient ++ elements_line (codes "public") public)
 
+-- the text of an outcome is written
+abbrev pub Renders : (Outcome → Type 0) → (old new : Writer) → Type 0
+Renders P old new = (o : Outcome) × P o × Appended old (render o) new
+
+-- the same, but a refused file is answered, and nothing is written of it
+abbrev pub Tells : (Outcome → Type 0) → (old : Writer) → Answer → (new : Writer) → Type 0
+Tells P old r new = MatchResult r (λ _. Renders P old new) (λ e. P (refused (number_of e.reason) e.at) × (new ≡ old))
+
 -- ── At a field ──
 
 -- how many bytes a file may have
@@ -62,14 +73,12 @@ module _ {F : Type 0} (O : Operations F) (coordinates : F → List ℕ) (prime d
       RefusedOr (then (sheet_due O c) (witness_due ws longest prime c.wires)) o
       ((vs : List ℕ) × Encodes ws prime c.wires vs × Answered (files_model O c vs) o)
 
-  -- the text of a sheet's outcome, from the front of a buffer to a place: of a sheet that stands for a model with one on wire 0 and
-  -- entries within the sheet
-  abbrev pub TellsModel : Sheet F → (old : List ℕ) (to : ℕ) (new : List ℕ) → Type 0
-  TellsModel s old to new =
+  -- the text of a sheet's outcome: of a sheet that stands for a model with one on wire 0 and entries within the sheet
+  abbrev pub TellsModel : Sheet F → (old new : Writer) → Type 0
+  TellsModel s old new =
       (b : Model F) → Stands O s b → coefficient O b.values 0 ≡ O.one → all_inside b.shape b.entries ≡ true
-      → (o : Outcome) × Answered b o × Appended old 0 (render o) to new
+      → Renders (Answered b) old new
 
   -- and of an opened constraint file, over the field's prime, with the assignment file ws
-  abbrev pub TellsCircuit : RowReader → (ws : List ℕ) (old : List ℕ) (to : ℕ) (new : List ℕ) → Type 0
-  TellsCircuit s ws old to new =
-      (c : Circuit) → Starts (again s) c → Proper c → c.prime ≡ prime → (o : Outcome) × Surveyed c ws o × Appended old 0 (render o) to new
+  abbrev pub TellsCircuit : RowReader → (ws : List ℕ) (old : Writer) → Answer → (new : Writer) → Type 0
+  TellsCircuit s ws old r new = (c : Circuit) → Starts (again s) c → Proper c → c.prime ≡ prime → Tells (Surveyed c ws) old r new

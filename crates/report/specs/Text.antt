@@ -1,9 +1,12 @@
--- Text: numbers in decimal, elements by their coordinates, and text in a buffer.
-use Rattle.std.specs.Prelude.{◌≡◌, ℕ, zero, suc, ◌+◌, List, [], ◌∷◌, ◌++◌, length, take, decimal}
+-- Text: numbers in decimal, elements by their coordinates, and what a writer is given of them.
+use Rattle.std.specs.Prelude.{ℕ, zero, suc, ◌≤◌, List, [], ◌∷◌, ◌++◌, length, decimal}
+use Rattle.writing.specs.declared.writer.Writer.{Writer}
+use Rattle.writing.specs.Written.{rest, Appends}
 
--- the text up to a place, then these bytes, and the new place is behind them
-abbrev pub Appended : (old : List ℕ) (at : ℕ) (ys : List ℕ) (to : ℕ) (new : List ℕ) → Type 0
-Appended old at ys to new = (to ≡ at + length ys) × (take to new ≡ take at old ++ ys)
+-- there was room for these bytes, and they are written
+pub record Appended (old : Writer) (ys : List ℕ) (new : Writer) : Type 0 where
+  pub room : length ys ≤ length (rest old)
+  pub appends : Appends old ys new
 
 -- the numbers, each behind this byte
 unfoldable pub each_behind : ℕ → List ℕ → List ℕ

@@ -1,34 +1,17 @@
-// Text appended to a buffer that has room for it: each function is handed the place where the text so far ends, and answers the new one.
-ghost use Rattle.std.specs.Prelude.{◌≡◌, ◌+◌, ◌*◌, ◌<◌, ◌≤◌, [], ◌∷◌, length, decimal};
+// Numbers in decimal.
+ghost use Rattle.std.specs.Prelude.{◌≤◌, length, decimal};
+ghost use Rattle.writing.specs.Written.{rest};
 ghost use Rattle.report.specs.Text.{Appended};
 
-pub(crate) fn append_byte(out: &mut [u8], at: usize, b: u8) -> usize
-    requires { at < length out.old }
-    ensures { Appended out.old at (b ∷ []) result out.new }
-{
-    out[at] = b;
-    at + 1
-}
+use writing::writer::Writer;
 
-pub(crate) fn append_text(out: &mut [u8], at: usize, text: &[u8]) -> usize
-    requires { at + length text.now ≤ length out.old }
-    ensures { Appended out.old at text.now result out.new }
+// A number without leading zeros. By hand: the library's formatter does not promise that it succeeds.
+pub(crate) fn append_number(out: &mut Writer<'_>, v: u64)
+    requires { length (decimal v) ≤ length (rest out.old) }
+    ensures { Appended out.old (decimal v) out.new }
 {
-    let mut to = at;
-    for b in text {
-        to = append_byte(out, to, *b);
+    if v >= 10 {
+        append_number(out, v / 10);
     }
-    to
-}
-
-// A number in decimal, without leading zeros.
-pub(crate) fn append_number(out: &mut [u8], at: usize, v: u64) -> usize
-    requires { at + length (decimal v) ≤ length out.old }
-    ensures { Appended out.old at (decimal v) result out.new }
-{
-    if v < 10 {
-        return append_byte(out, at, 48 + v as u8);
-    }
-    let front = append_number(out, at, v / 10);
-    append_byte(out, front, 48 + (v % 10) as u8)
+    out.put(&[b'0' + (v % 10) as u8]);
 }

@@ -4,18 +4,30 @@ ghost use Rattle.sheet.specs.Shape.{log_of_n};
 ghost use Rattle.sheet.specs.Rules.{in_limits};
 ghost use Rattle.sheet.specs.Outcomes.{counted};
 ghost use Rattle.loading.specs.Loaded.{file_shape};
+ghost use Rattle.writing.specs.Written.{rest};
+ghost use Rattle.report.specs.Times.{times};
 ghost use Rattle.report.specs.Means.{doublings, text_room, TellsBy};
 
-use crate::fields::{
-    report_over_97, report_over_97_doubled, report_over_97_doubled_twice, report_over_12289,
-};
+use crate::circuit::tell_circuit;
 use constraints::header::Header;
 use constraints::reader::RowReader;
 use field::field::Field;
 use modular::f97::F97;
+use modular::f12289::F12289;
 use quadratic::quadratic::Quadratic;
+use refusal::reason::Refusal;
+use refusal::refused::Refused;
 use sheet::counts::Counts;
 use sheet::head::calls::plan;
+use writing::writer::Writer;
+
+// How often a field is doubled.
+#[derive(Clone, Copy, PartialEq, Eq, Debug)]
+enum Doublings {
+    Never,
+    Once,
+    Twice,
+}
 
 // Whether a sheet's numbers are within the limits, but the field has no subgroup for its rows.
 fn lacks_root<F: Field>(counts: Counts) -> bool
@@ -23,17 +35,16 @@ fn lacks_root<F: Field>(counts: Counts) -> bool
 {
     match plan::<F>(counts) {
         Ok(_) => false,
-        Err(e) => e.reason.number() == 2,
+        Err(e) => matches!(e.reason, Refusal::NoRoot),
     }
 }
 
 // How often the field of 97 elements is doubled.
-fn doublings_of(header: Header) -> u32
-    ensures is { result ≡ doublings 97 (file_shape header) }
-    ensures few { result ≤ 2 }
+fn doublings_of(header: Header) -> Doublings
+    ensures { times result ≡ doublings 97 (file_shape header) }
 {
     let Ok(publics) = u32::try_from(header.public()) else {
-        return 0;
+        return Doublings::Never;
     };
     let counts = Counts {
         wires: header.wires,
@@ -41,38 +52,39 @@ fn doublings_of(header: Header) -> u32
         rows: header.rows,
     };
     if !lacks_root::<F97>(counts) {
-        0
+        Doublings::Never
     } else if !lacks_root::<Quadratic<F97>>(counts) {
-        1
+        Doublings::Once
     } else {
-        2
+        Doublings::Twice
     }
 }
 
 // The text of a circuit over 97.
-fn report_97(reader: RowReader<'_>, witness: &[u8], text: &mut [u8]) -> usize
-    requires { text_room ≤ length text.old }
-    ensures { TellsBy 97 reader.entry witness.now text.old result text.new }
+fn tell_over_97(reader: RowReader<'_>, witness: &[u8], out: &mut Writer<'_>) -> Result<(), Refused>
+    requires { text_room ≤ length (rest out.old) }
+    ensures { TellsBy 97 reader.entry witness.now out.old result out.new }
 {
-    let doublings = doublings_of(reader.header());
-    if doublings == 0 {
-        report_over_97(reader, witness, text)
-    } else if doublings == 1 {
-        report_over_97_doubled(reader, witness, text)
-    } else {
-        report_over_97_doubled_twice(reader, witness, text)
+    match doublings_of(reader.header()) {
+        Doublings::Never => tell_circuit::<F97>(reader, 0, witness, out),
+        Doublings::Once => tell_circuit::<Quadratic<F97>>(reader, 1, witness, out),
+        Doublings::Twice => tell_circuit::<Quadratic<Quadratic<F97>>>(reader, 2, witness, out),
     }
 }
 
-// The text of an opened circuit over either prime.
-pub(crate) fn report_reader(reader: RowReader<'_>, witness: &[u8], text: &mut [u8]) -> usize
-    requires room { text_room ≤ length text.old }
-    ensures small { reader.entry.header.prime ≡ 97 → TellsBy 97 reader.entry witness.now text.old result text.new }
-    ensures large { reader.entry.header.prime ≡ 12289 → TellsBy 12289 reader.entry witness.now text.old result text.new }
+// The text of an opened circuit over either prime. No sheet needs a doubling of the larger field.
+pub(crate) fn tell_reader(
+    reader: RowReader<'_>,
+    witness: &[u8],
+    out: &mut Writer<'_>,
+) -> Result<(), Refused>
+    requires { text_room ≤ length (rest out.old) }
+    ensures small { reader.entry.header.prime ≡ 97 → TellsBy 97 reader.entry witness.now out.old result out.new }
+    ensures large { reader.entry.header.prime ≡ 12289 → TellsBy 12289 reader.entry witness.now out.old result out.new }
 {
     if reader.header().prime == 97 {
-        report_97(reader, witness, text)
+        tell_over_97(reader, witness, out)
     } else {
-        report_over_12289(reader, witness, text)
+        tell_circuit::<F12289>(reader, 0, witness, out)
     }
 }

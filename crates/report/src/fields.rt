@@ -1,72 +1,64 @@
-// The fields that the text call knows, each with tables of its own.
-ghost use Rattle.std.specs.Prelude.{◌≤◌, length};
-ghost use Rattle.report.specs.Outcome.{TellsCircuit};
-ghost use Rattle.report.specs.Means.{field_of, text_room};
+// Fields of which the call tells: those with texts that it has room for.
+ghost use Rattle.std.specs.Prelude.{◌*◌, ◌^◌, ◌≤◌, min};
+ghost use Rattle.std.specs.Allocator.{FitsBlock};
+ghost use Rattle.std.proofs.Common.{lit≤};
+ghost use Rattle.sheet.specs.contracts.entry.Entry.{the_row};
 
-use crate::circuit::report_circuit;
-use constraints::reader::RowReader;
 use field::field::Field;
+use field::file_field::FileField;
 use modular::f97::F97;
 use modular::f12289::F12289;
 use quadratic::quadratic::Quadratic;
-use sheet::entry::Entry;
 
-// The text over a field, with tables of the largest lengths. Generic code cannot lend arrays of its own, so this is written for each.
-macro_rules! report_over {
-    ($field:ty, $doublings:expr, $reader:expr, $witness:expr, $text:expr) => {{
-        let zero = <$field>::zero();
-        let mut entries = [Entry::<$field>::blank(); 2048];
-        let mut values = [zero; 2048];
-        let mut divided = [zero; 2047];
-        let mut published = [zero; 2048];
-        let mut work = [zero; 11264];
-        report_circuit(
-            $reader,
-            $doublings,
-            $witness,
-            &mut entries,
-            &mut values,
-            &mut divided,
-            &mut published,
-            &mut work,
-            $text,
-        )
-    }};
+pub(crate) trait TextField: FileField {
+    // a coordinate has at most five digits
+    ghost small: { Self.prime ≤ 2 ^ 16 };
+
+    // a polynomial over a subgroup of the field has at most so many coordinates
+    ghost narrow: { Self.width * min (2 ^ Self.ops.adicity) 2048 ≤ 2048 };
+
+    // the largest table and the largest buffer fit in memory
+    ghost table: { FitsBlock (the_row Self.row) 2048 };
+
+    ghost buffer: { FitsBlock Self.row 11264 };
 }
 
-pub(crate) fn report_over_97(reader: RowReader<'_>, witness: &[u8], text: &mut [u8]) -> usize
-    requires { text_room ≤ length text.old }
-    ensures { TellsCircuit (field_of 97 0).ops (field_of 97 0).coordinates 97 0 reader.entry witness.now text.old result text.new }
-{
-    report_over!(F97, 0, reader, witness, text)
+impl TextField for F97 {
+    ghost small = { lit≤ tt };
+
+    ghost narrow = { lit≤ tt };
+
+    ghost table = { lit≤ tt };
+
+    ghost buffer = { lit≤ tt };
 }
 
-pub(crate) fn report_over_97_doubled(
-    reader: RowReader<'_>,
-    witness: &[u8],
-    text: &mut [u8],
-) -> usize
-    requires { text_room ≤ length text.old }
-    ensures { TellsCircuit (field_of 97 1).ops (field_of 97 1).coordinates 97 1 reader.entry witness.now text.old result text.new }
-{
-    report_over!(Quadratic<F97>, 1, reader, witness, text)
+impl TextField for Quadratic<F97> {
+    ghost small = { lit≤ tt };
+
+    ghost narrow = { lit≤ tt };
+
+    ghost table = { lit≤ tt };
+
+    ghost buffer = { lit≤ tt };
 }
 
-pub(crate) fn report_over_97_doubled_twice(
-    reader: RowReader<'_>,
-    witness: &[u8],
-    text: &mut [u8],
-) -> usize
-    requires { text_room ≤ length text.old }
-    ensures { TellsCircuit (field_of 97 2).ops (field_of 97 2).coordinates 97 2 reader.entry witness.now text.old result text.new }
-{
-    report_over!(Quadratic<Quadratic<F97>>, 2, reader, witness, text)
+impl TextField for Quadratic<Quadratic<F97>> {
+    ghost small = { lit≤ tt };
+
+    ghost narrow = { lit≤ tt };
+
+    ghost table = { lit≤ tt };
+
+    ghost buffer = { lit≤ tt };
 }
 
-// No sheet needs a doubling of this field.
-pub(crate) fn report_over_12289(reader: RowReader<'_>, witness: &[u8], text: &mut [u8]) -> usize
-    requires { text_room ≤ length text.old }
-    ensures { TellsCircuit (field_of 12289 0).ops (field_of 12289 0).coordinates 12289 0 reader.entry witness.now text.old result text.new }
-{
-    report_over!(F12289, 0, reader, witness, text)
+impl TextField for F12289 {
+    ghost small = { lit≤ tt };
+
+    ghost narrow = { lit≤ tt };
+
+    ghost table = { lit≤ tt };
+
+    ghost buffer = { lit≤ tt };
 }

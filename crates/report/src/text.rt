@@ -1,47 +1,39 @@
 // The text call: from the bytes of two files to the text that the program prints.
 ghost use Rattle.std.specs.Prelude.{◌≡◌, ◌≤◌, ◌++◌, length, drop, None, nat_le};
 ghost use Rattle.refusal.specs.Due.{Decided, unless};
-ghost use Rattle.constraints.specs.Reader.{Checked, ReadsCircuit};
-ghost use Rattle.report.specs.Means.{prime_of, text_room, Composed, Written};
+ghost use Rattle.writing.specs.Written.{rest};
+ghost use Rattle.report.specs.Outcome.{Renders, Tells};
+ghost use Rattle.report.specs.Means.{text_room, Means, Written};
 
-use crate::choice::report_reader;
+use crate::choice::tell_reader;
 use crate::circuit::LONGEST;
 use crate::survey::append_refusal;
-use constraints::reader::{RowReader, open};
 use refusal::reason::Refusal;
 use refusal::refused::Refused;
+use solving::open::open_known;
+use writing::writer::Writer;
 
 // A buffer of so many bytes has room for every text.
 pub const TEXT_ROOM: usize = 32768;
 
-// Opens a circuit over 97 or, where it is over another prime, over 12289.
-fn open_either(circuit: &[u8]) -> Result<RowReader<'_>, Refused>
-    ensures verdict { Checked circuit.now (prime_of circuit.now) result }
-    ensures circuit { ReadsCircuit circuit.now (prime_of circuit.now) result }
-{
-    match open(circuit, 97) {
-        Ok(reader) => Ok(reader),
-        Err(e) => {
-            if e.reason.number() == 9 {
-                open(circuit, 12289)
-            } else {
-                Err(e)
-            }
-        }
-    }
-}
-
-// Writes the text into a buffer that has room for it, and answers its length.
-fn compose(circuit: &[u8], witness: &[u8], text: &mut [u8]) -> usize
-    requires { text_room ≤ length text.old }
-    ensures { Composed circuit.now witness.now text.old result text.new }
+// The text of two files, unless one of them is refused.
+fn tell_files(circuit: &[u8], witness: &[u8], out: &mut Writer<'_>) -> Result<(), Refused>
+    requires { text_room ≤ length (rest out.old) }
+    ensures { Tells (Means circuit.now witness.now) out.old result out.new }
 {
     if circuit.len() > LONGEST {
-        return append_refusal(text, 0, Refusal::WrongLength.at(0));
+        return Err(Refusal::WrongLength.at(0));
     }
-    match open_either(circuit) {
-        Ok(reader) => report_reader(reader, witness, text),
-        Err(e) => append_refusal(text, 0, e),
+    tell_reader(open_known(circuit)?, witness, out)
+}
+
+// The same, where a refusal is told too.
+fn compose(circuit: &[u8], witness: &[u8], out: &mut Writer<'_>)
+    requires { text_room ≤ length (rest out.old) }
+    ensures { Renders (Means circuit.now witness.now) out.old out.new }
+{
+    if let Err(e) = tell_files(circuit, witness, out) {
+        append_refusal(out, e);
     }
 }
 
@@ -53,7 +45,7 @@ fn deliver(text: &[u8], out: &mut [u8]) -> Result<usize, Refused>
     if size > out.len() {
         return Err(Refusal::BufferTooShort.at(0));
     }
-    out[0..size].copy_from_slice(text);
+    out[..size].copy_from_slice(text);
     Ok(size)
 }
 
@@ -63,6 +55,7 @@ pub fn text(circuit: &[u8], witness: &[u8], out: &mut [u8]) -> Result<usize, Ref
     ensures { Written circuit.now witness.now out.old result out.new }
 {
     let mut buffer = [0; TEXT_ROOM];
-    let size = compose(circuit, witness, &mut buffer);
-    deliver(&buffer[0..size], out)
+    let mut writer = Writer::new(&mut buffer);
+    compose(circuit, witness, &mut writer);
+    deliver(writer.written(), out)
 }

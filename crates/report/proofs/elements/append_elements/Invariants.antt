@@ -1,8 +1,11 @@
-use Rattle.std.proofs.Common.{◌+◌, ◌*◌, ◌≤◌, map, take}
+use Rattle.std.proofs.Common.{◌+◌, ◌*◌, ◌≤◌, map, length, take}
+use Rattle.writing.specs.Written.{rest}
 use Rattle.report.specs.Text.{Appended, elements_text}
 use Rattle.report.proofs.elements.append_elements.Given as goal
 
 abbrev pub invariant-loop-x : goal.invariant-loop-x
 invariant-loop-x g l =
-    (l.to ≤ l.at + (6 * g.F.FileField.width + 1) * l.x-index)
-    × Appended l.initial.out l.at (elements_text (map g.F.FileField.coordinates (take l.x-index l.xs))) l.to l.out
+    record {
+      text : Appended l.initial.out (elements_text (map g.F.FileField.coordinates (take l.x-index l.xs))) l.out;
+      short : length (rest l.initial.out) ≤ length (rest l.out) + (6 * g.F.FileField.width + 1) * l.x-index;
+    }
