@@ -4,15 +4,29 @@
 ghost use Rattle.std.specs.Prelude.{length};
 ghost use Rattle.sapsheet_c.specs.Outcome.{Outcome, Answered};
 ghost use Rattle.sapsheet_c.specs.Means.{Means};
+ghost use Rattle.sapsheet_c.specs.Parts.{Answers};
 
-use crate::fields::{answer_97, answer_12289};
-use constraints::reader::open;
-use refusal::reason::Refusal;
+use crate::answer::answer_reader;
+use modular::f97::F97;
+use refusal::refused::Refused;
+use solving::open::open_known;
+use table_field::f12289::F12289;
 
 mod answer;
 mod fields;
 mod numbers;
 pub mod theorem;
+
+fn answer_files(circuit: &[u8], witness: &[u8], answer: &mut [u8]) -> Result<(), Refused>
+    ensures { Answers (Means circuit.now witness.now (length answer.old)) answer.old result answer.new }
+{
+    let reader = open_known(circuit)?;
+    if reader.header().prime == 97 {
+        answer_reader::<F97>(reader, witness, answer)
+    } else {
+        answer_reader::<F12289>(reader, witness, answer)
+    }
+}
 
 // Writes the quotient's coefficients to the front of the buffer, each in 8 bytes with the least byte first, and answers 0; or answers
 // the number of the refusal and writes nothing. The prime is 97 or 12289, as the constraint file says.
@@ -20,14 +34,8 @@ pub mod theorem;
 pub extern "C" fn sapsheet_quotient(circuit: &[u8], witness: &[u8], answer: &mut [u8]) -> u32
     ensures { (o : Outcome) × Means circuit.now witness.now (length answer.old) o × Answered o answer.old result answer.new }
 {
-    match open(circuit, 97) {
-        Ok(reader) => answer_97(reader, witness, answer),
-        Err(e) => match e.reason {
-            Refusal::OtherPrime => match open(circuit, 12289) {
-                Ok(reader) => answer_12289(reader, witness, answer),
-                Err(e) => e.reason.number(),
-            },
-            reason => reason.number(),
-        },
+    match answer_files(circuit, witness, answer) {
+        Ok(()) => 0,
+        Err(e) => e.reason.number(),
     }
 }
