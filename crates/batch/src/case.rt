@@ -1,7 +1,7 @@
 // The bytes of a case, of which numbers, elements and lists are taken off the front.
 use field::field::Field;
 use field::file_field::FileField;
-use frames::number::word;
+use frames::number::{long, word};
 use sheet::counts::Counts;
 use sheet::entry::Entry;
 use std::alloc::{AllocError, Global};
@@ -60,9 +60,9 @@ impl<'a> Case<'a> {
 
     // An 8-byte number.
     pub(crate) fn long(&mut self) -> Result<u64, Malformed> {
-        let low = self.word()?;
-        let high = self.word()?;
-        Ok(u64::from(high) << 32 | u64::from(low))
+        let (number, rest) = long(self.rest).ok_or(Malformed)?;
+        self.rest = rest;
+        Ok(number)
     }
 
     // A length of 4 bytes.

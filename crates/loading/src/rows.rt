@@ -1,5 +1,6 @@
 // The rows of a reader, entered into a sheet.
 ghost use Rattle.std.specs.Prelude.{◌≡◌, [], ◌∷◌, map};
+ghost use Rattle.sheet.specs.Matrix.{number_of};
 ghost use Rattle.constraints.specs.Reader.{again};
 ghost use Rattle.loading.specs.Rows.{items_of, line_of, item_count, rows_ahead};
 ghost use Rattle.loading.specs.Entries.{below, line_below, list_entries, line_entries, entries_from, EntersAll};
@@ -13,6 +14,7 @@ use field::file_field::FileField;
 use sheet::entry::Entry;
 use sheet::head::Head;
 use sheet::head::calls::enter;
+use sheet::matrix::Matrix;
 
 // The bytes of an item: a wire of 4 and a coefficient of 8.
 const ITEM_SIZE: usize = 12;
@@ -21,14 +23,14 @@ const ITEM_SIZE: usize = 12;
 fn enter_item<F: FileField>(
     head: &mut Head,
     entries: &mut [Entry<F>],
-    matrix: u32,
+    matrix: Matrix,
     row: u32,
     item: Item,
 )
-    ensures { EntersAll F.ops head.old entries.old (list_entries F.ops matrix row (below F.prime (item ∷ []))) head.new entries.new }
+    ensures { EntersAll F.ops head.old entries.old (list_entries F.ops (number_of matrix) row (below F.prime (item ∷ []))) head.new entries.new }
 {
     if let Some(x) = F::element(item.coefficient) {
-        let _ = enter(head, entries, matrix, row, item.wire, x);
+        let _ = enter(head, entries, matrix.number(), row, item.wire, x);
     }
 }
 
@@ -36,11 +38,11 @@ fn enter_item<F: FileField>(
 fn enter_list<F: FileField>(
     head: &mut Head,
     entries: &mut [Entry<F>],
-    matrix: u32,
+    matrix: Matrix,
     row: u32,
     part: &[u8],
 )
-    ensures { EntersAll F.ops head.old entries.old (list_entries F.ops matrix row (below F.prime (items_of part.now))) head.new entries.new }
+    ensures { EntersAll F.ops head.old entries.old (list_entries F.ops (number_of matrix) row (below F.prime (items_of part.now))) head.new entries.new }
 {
     for item in ItemReader::new(part) {
         enter_item(head, entries, matrix, row, item);
@@ -51,9 +53,9 @@ fn enter_list<F: FileField>(
 fn enter_row<F: FileField>(head: &mut Head, entries: &mut [Entry<F>], number: u32, row: Row<'_>)
     ensures { EntersAll F.ops head.old entries.old (line_entries F.ops number (line_below F.prime (line_of row.entry))) head.new entries.new }
 {
-    enter_list(head, entries, 0, number, row.a);
-    enter_list(head, entries, 1, number, row.b);
-    enter_list(head, entries, 2, number, row.c);
+    enter_list(head, entries, Matrix::A, number, row.a);
+    enter_list(head, entries, Matrix::B, number, row.b);
+    enter_list(head, entries, Matrix::C, number, row.c);
 }
 
 // The rows that a reader has still to hand out, from row 0 of the sheet on. The reader is given up.

@@ -10,7 +10,7 @@ use crate::answer::answer_reader;
 use modular::f97::F97;
 use refusal::refused::Refused;
 use solving::open::open_known;
-use table_field::f12289::F12289;
+use modular::f12289::F12289;
 
 mod answer;
 mod fields;

@@ -8,19 +8,9 @@ use crate::bytes::put_labels;
 use crate::program::Program;
 use field::field::Field;
 use field::file_field::FileField;
+use frames::format::CONSTRAINTS;
+use frames::section::{BODY, HEADER, LABELS};
 use writing::writer::Writer;
-
-// The file's bytes 72 31 63 73.
-const MAGIC: u32 = 0x7363_3172;
-
-const VERSION: u32 = 1;
-
-// The kinds of its sections.
-const HEADER: u32 = 1;
-
-const ROWS: u32 = 2;
-
-const LABELS: u32 = 3;
 
 // The numbers of the header: no outputs, no private inputs, and a label for each wire.
 fn put_header(w: &mut Writer<'_>, prime: u64, wires: u32, inputs: u32, rows: u32)
@@ -45,7 +35,7 @@ impl<F: FileField> Program<'_, F> {
     {
         let wires = self.head.columns();
         let inputs = self.head.publics() - 1;
-        w.put_start(MAGIC, VERSION, 3);
+        w.put_start(CONSTRAINTS, 3);
         w.put_head(HEADER, 40);
         put_header(
             w,
@@ -54,7 +44,7 @@ impl<F: FileField> Program<'_, F> {
             inputs as u32,
             self.head.n() as u32,
         );
-        w.put_head(ROWS, size);
+        w.put_head(BODY, size);
         self.put_rows(w);
         w.put_head(LABELS, 8 * wires);
         put_labels(w, wires);

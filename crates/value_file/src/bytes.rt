@@ -6,18 +6,10 @@ ghost use Rattle.value_file.specs.ValueFile.{all_plain, numbers, value_file_byte
 
 use field::field::Field;
 use field::file_field::FileField;
+use frames::format::ASSIGNMENTS;
+use frames::section::{BODY, HEADER};
 use writing::plain::{number_of, plain_number};
 use writing::writer::Writer;
-
-// The file's bytes 77 74 6E 73.
-const MAGIC: u32 = 0x736E_7477;
-
-const VERSION: u32 = 2;
-
-// The kinds of its sections.
-const HEADER: u32 = 1;
-
-const VALUES: u32 = 2;
 
 // Where the values begin.
 pub(crate) const VALUES_AT: usize = 52;
@@ -53,10 +45,10 @@ fn put_file<F: FileField>(w: &mut Writer<'_>, values: &[F], p: u64)
     requires named { p ≡ F.prime }
     ensures { Fills w.old (value_file_bytes F.ops F.prime values.now) w.new }
 {
-    w.put_start(MAGIC, VERSION, 2);
+    w.put_start(ASSIGNMENTS, 2);
     w.put_head(HEADER, 16);
     put_header(w, p, values.len() as u32);
-    w.put_head(VALUES, 8 * values.len());
+    w.put_head(BODY, 8 * values.len());
     put_numbers(w, values);
 }
 

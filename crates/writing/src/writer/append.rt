@@ -5,6 +5,7 @@ ghost use Rattle.writing.specs.Written.{written, rest, Writes};
 
 use crate::put::put;
 use crate::writer::Writer;
+use frames::format::Format;
 
 impl<'a> Writer<'a> {
     // Nothing is written yet.
@@ -71,12 +72,12 @@ impl<'a> Writer<'a> {
     }
 
     // The start of a file: which format, and how many sections there are.
-    pub fn put_start(&mut self, magic: u32, version: u32, sections: u32)
-        ensures { Writes self.old (little 4 magic ++ (little 4 version ++ little 4 sections)) self.new }
+    pub fn put_start(&mut self, format: Format, sections: u32)
+        ensures { Writes self.old (little 4 format.magic ++ (little 4 format.version ++ little 4 sections)) self.new }
     {
         if self.room() >= 12 {
-            self.put_word(magic);
-            self.put_word(version);
+            self.put_word(format.magic);
+            self.put_word(format.version);
             self.put_word(sections);
         }
     }
