@@ -1,6 +1,6 @@
 // The same call over other fields: the field of 97 elements doubled, with θ among entries and values, and the field of 12289 elements.
 use crate::print::{show, tell};
-use crate::told::told;
+use crate::tables::survey_over;
 use field::field::Field;
 use field::file_field::FileField;
 use modular::f97::F97;
@@ -43,7 +43,7 @@ fn survey_row<F: FileField>(
             value: x,
         },
     ];
-    match told(rt, counts, &calls)? {
+    match survey_over(rt, counts, &calls)? {
         Ok(s) => {
             tell(rt, "quotient", s.quotient)?;
             show(rt, "extended values", &s.extended)?;

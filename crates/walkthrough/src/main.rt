@@ -4,7 +4,7 @@
 mod fields;
 mod print;
 mod steps;
-mod told;
+mod tables;
 mod whole;
 
 use std::io;

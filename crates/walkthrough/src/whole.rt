@@ -1,6 +1,6 @@
 // The same sheet by one call that takes the whole list of calls, and its quotient multiplied out.
 use crate::print::{show, tell};
-use crate::told::told;
+use crate::tables::survey_over;
 use field::field::Field;
 use modular::f97::F97;
 use sheet::call::Call;
@@ -95,7 +95,7 @@ fn survey_with(rt: &HostRuntime, x: F97) -> io::Result<()> {
         publics: 1,
         rows: 1,
     };
-    match told(rt, counts, &listed(x))? {
+    match survey_over(rt, counts, &listed(x))? {
         Ok(s) => {
             for answer in &s.answers {
                 tell(rt, "listed call", *answer)?;

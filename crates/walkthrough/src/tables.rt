@@ -21,7 +21,7 @@ pub(crate) struct Told<F> {
 }
 
 // Refused where there is no sheet of these numbers over the field.
-pub(crate) fn told<F: FileField>(
+pub(crate) fn survey_over<F: FileField>(
     rt: &HostRuntime,
     counts: Counts,
     calls: &[Call<F>],
