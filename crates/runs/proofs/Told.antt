@@ -6,11 +6,12 @@ use Rattle.refusal.specs.Due.{Due, unless}
 use Rattle.field.specs.Operations.{Operations}
 use Rattle.sheet.specs.Shape.{Shape, log_of_n, n, columns}
 use Rattle.sheet.specs.Rules.{table_size, in_limits, planned, make_due}
-use Rattle.sheet.specs.Outcomes.{Numbers, first_values}
+use Rattle.sheet.specs.Outcomes.{Numbers, shape_of, first_values}
 use Rattle.sheet.specs.Model.{sheet, Stands, fresh}
 use Rattle.sheet.specs.declared.head.Head.{Head}
 use Rattle.sheet.specs.declared.entry.Entry.{Entry}
 use Rattle.sheet.specs.declared.call.Call.{Call}
+use Rattle.square.proofs.Heads.{shape_same}
 use Rattle.runs.specs.Survey.{Lengths, buffers_fit, survey_due}
 use Rattle.runs.proofs.Stands.{line_passed}
 
@@ -42,6 +43,10 @@ fit_parts S calls x h =
       work = eqb-true _ _ working.0;
       scratch = eqb-true _ _ working.1;
     }
+
+-- a head of the shape tells the same
+pub fits_at : (S : Shape) (h : Head) (calls : ℕ) (x : Lengths) (b : Bool) → Numbers h S 0 → b ≡ buffers_fit (shape_of h) calls x → b ≡ buffers_fit S calls x
+fits_at S h calls x b numbers e = e ∙ ap (λ T. buffers_fit T calls x) (shape_same h S 0 numbers)
 
 -- ── What is owed, once the lines above have passed ──
 

@@ -12,6 +12,7 @@ use Rattle.sheet.specs.declared.entry.Entry.{Entry}
 use Rattle.sheet.specs.declared.call.Call.{Call}
 use Rattle.runs.specs.Runs.{Run, AllAsOwed}
 use Rattle.runs.specs.Law.{Reading}
+use Rattle.runs.specs.declared.lent.Lent.{Lent}
 use Rattle.runs.specs.declared.surveyed.Surveyed.{Surveyed}
 
 -- the lengths of what is lent besides the value table: one answer a call, the entry table, the three results, and two working buffers
@@ -38,6 +39,31 @@ pub record Buffers (F : Type 0) : Type 0 where
   pub extended : List F
   pub quotient : List F
   pub public : List F
+
+-- the same of the struct that holds them
+module _ {F : Type 0} (x : Lent F) where
+  abbrev pub held : Buffers F
+  held =
+      record {
+        answers = x.answers.now;
+        entries = x.entries.now;
+        values = x.values.now;
+        extended = x.extended.now;
+        quotient = x.divided.now;
+        public = x.published.now;
+      }
+
+  abbrev pub sizes : Lengths
+  sizes =
+      record {
+        answers = length x.answers.now;
+        entries = length x.entries.now;
+        extended = length x.extended.now;
+        quotient = length x.divided.now;
+        public = length x.published.now;
+        work = length x.work.now;
+        scratch = length x.scratch.now;
+      }
 
 module _ {F : Type 0} (O : Operations F) (S : Shape) (calls : List (Call F)) where
   abbrev model : Model F

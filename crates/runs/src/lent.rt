@@ -1,7 +1,7 @@
 // What a survey is lent.
-ghost use Rattle.std.specs.Prelude.{◌≡◌, length};
+ghost use Rattle.std.specs.Prelude.{◌≡◌};
 ghost use Rattle.sheet.specs.Outcomes.{shape_of};
-ghost use Rattle.runs.specs.Survey.{buffers_fit};
+ghost use Rattle.runs.specs.Survey.{buffers_fit, sizes};
 
 use refusal::refused::Refused;
 use sheet::entry::Entry;
@@ -27,7 +27,7 @@ pub struct Lent<'a, F> {
 impl<F> Lent<'_, F> {
     // Whether all but the value table and the spares have the stated lengths.
     pub(crate) fn fits(&self, head: &Head, calls: usize) -> bool
-        ensures { result ≡ buffers_fit (shape_of head.now) calls (record { answers = length self.now.answers.now; entries = length self.now.entries.now; extended = length self.now.extended.now; quotient = length self.now.divided.now; public = length self.now.published.now; work = length self.now.work.now; scratch = length self.now.scratch.now }) }
+        ensures { result ≡ buffers_fit (shape_of head.now) calls (sizes self.now) }
     {
         let n = head.n();
         let columns = head.columns();

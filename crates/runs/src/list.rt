@@ -38,6 +38,7 @@ fn handed<'a, T>(own: &'a [T], spare: &'a [T], stated: usize, listed: usize) -> 
 }
 
 // One call of a list. Tables of the stated length are the sheet's own, others parts of the spares; results go to the scratch buffer.
+// The buffers are no struct here: tried, and the borrow checker has no proof of a table in a field that is lent as `&[Entry<F>]`.
 fn step<F: Field>(
     head: &mut Head,
     entries: &mut [Entry<F>],
@@ -140,7 +141,7 @@ pub(crate) fn replay<F: Field>(
     requires count { length answers.old ≡ length calls.now }
     ensures { Run F.ops (sheet head.old entries.old values.old) calls.now answers.new (sheet head.new entries.new values.new) }
 {
-    for i in 0..calls.len() {
+    for (i, call) in calls.iter().enumerate() {
         answers[i] = step(
             head,
             entries,
@@ -149,7 +150,7 @@ pub(crate) fn replay<F: Field>(
             work,
             spare_entries,
             spare_values,
-            calls[i],
+            *call,
         );
     }
 }

@@ -1,7 +1,7 @@
 // A sheet from its first call to what is read from it.
 ghost use Rattle.std.specs.Prelude.{◌≡◌, length};
 ghost use Rattle.sheet.specs.Outcomes.{counted};
-ghost use Rattle.runs.specs.Survey.{Outcome};
+ghost use Rattle.runs.specs.Survey.{held, Outcome};
 
 use crate::lent::Lent;
 use crate::list::replay;
@@ -23,7 +23,7 @@ pub fn survey<F: Field>(
     calls: &[Call<F>],
     lent: Lent<'_, F>,
 ) -> Result<Surveyed, Refused>
-    ensures { Outcome F.ops (counted counts) calls.now (record { answers = lent.entry.answers.now; entries = lent.entry.entries.now; values = lent.entry.values.now; extended = lent.entry.extended.now; quotient = lent.entry.divided.now; public = lent.entry.published.now }) (length lent.entry.work.now) (length lent.entry.scratch.now) result (record { answers = lent.exit.0.now; entries = lent.exit.1.0.now; values = lent.exit.1.1.0.now; extended = lent.exit.1.1.1.0.now; quotient = lent.exit.1.1.1.1.0.now; public = lent.exit.1.1.1.1.1.0.now }) }
+    ensures { let z = lent.exit in Outcome F.ops (counted counts) calls.now (held lent.entry) (length lent.entry.work.now) (length lent.entry.scratch.now) result (record { answers = z.0.now; entries = z.1.0.now; values = z.1.1.0.now; extended = z.1.1.1.0.now; quotient = z.1.1.1.1.0.now; public = z.1.1.1.1.1.0.now }) }
 {
     let planned = plan::<F>(counts)?;
     if !lent.fits(&planned, calls.len()) {
@@ -53,13 +53,13 @@ pub fn survey<F: Field>(
         calls,
         answers,
     );
-    let extend_answer = extend(&head, entries, values, extended);
-    let quotient_answer = quotient(&head, entries, values, divided, work);
-    let public_answer = public(&head, values, published);
+    let extend = extend(&head, entries, values, extended);
+    let quotient = quotient(&head, entries, values, divided, work);
+    let public = public(&head, values, published);
     Ok(Surveyed {
         head,
-        extend: extend_answer,
-        quotient: quotient_answer,
-        public: public_answer,
+        extend,
+        quotient,
+        public,
     })
 }
