@@ -7,14 +7,12 @@ ghost use Rattle.constraints.specs.Opened.{headed, items, beyond, lists};
 ghost use Rattle.constraints.specs.Reader.{Tells, list_part};
 
 use crate::header::Header;
+use crate::item::ITEM_SIZE;
 use crate::item::reader::ItemReader;
 use frames::layout::Payload;
 use frames::number::{pair, word};
 use refusal::reason::Refusal;
 use refusal::refused::Refused;
-
-// The bytes of an item: a wire of 4 and a coefficient of 8.
-const ITEM_SIZE: usize = 12;
 
 // The numbers of a header; None unless it has 40 bytes and field size 8.
 fn numbers(payload: &[u8]) -> Option<Header>

@@ -5,7 +5,7 @@ ghost use Rattle.constraints.specs.Reader.{again};
 ghost use Rattle.loading.specs.Rows.{items_of, line_of, item_count, rows_ahead};
 ghost use Rattle.loading.specs.Entries.{below, line_below, list_entries, line_entries, entries_from, EntersAll};
 
-use constraints::item::Item;
+use constraints::item::{ITEM_SIZE, Item};
 use constraints::item::reader::ItemReader;
 use constraints::reader::RowReader;
 use constraints::row::Row;
@@ -15,9 +15,6 @@ use sheet::entry::Entry;
 use sheet::head::Head;
 use sheet::head::calls::enter;
 use sheet::matrix::Matrix;
-
-// The bytes of an item: a wire of 4 and a coefficient of 8.
-const ITEM_SIZE: usize = 12;
 
 // One item. The coefficients of an opened file are below its prime, and its wires within the sheet: there nothing is passed over.
 fn enter_item<F: FileField>(
@@ -66,13 +63,9 @@ pub(crate) fn enter_rows<F: FileField>(
 )
     ensures { EntersAll F.ops head.old entries.old (entries_from F.ops 0 (map (line_below F.prime) (rows_ahead reader.entry))) head.new entries.new }
 {
-    let mut reader = reader;
-    let mut number = 0;
-    while let Some(row) = reader.next() {
-        enter_row(head, entries, number, row);
-        number += 1;
+    for (number, row) in reader.enumerate() {
+        enter_row(head, entries, number as u32, row);
     }
-    reader.end();
 }
 
 // How many items the rows have that a reader has still to hand out.
@@ -81,6 +74,7 @@ pub(crate) fn count_items(reader: &mut RowReader<'_>) -> usize
     ensures count { result ≡ item_count (rows_ahead reader.old) }
 {
     let mut count = 0;
+    // `for row in reader.by_ref()` was tried: what the reader is after the loop is then not proved
     while let Some(row) = reader.next() {
         count += row.a.len() / ITEM_SIZE + row.b.len() / ITEM_SIZE + row.c.len() / ITEM_SIZE;
     }
