@@ -5,8 +5,8 @@ ghost use Rattle.constraints.specs.Reader.{again};
 ghost use Rattle.loading.specs.Rows.{items_of, line_of, item_count, rows_ahead};
 ghost use Rattle.loading.specs.Entries.{below, line_below, list_entries, line_entries, entries_from, EntersAll};
 
-use constraints::item::{ITEM_SIZE, Item};
 use constraints::item::reader::ItemReader;
+use constraints::item::{ITEM_SIZE, Item};
 use constraints::reader::RowReader;
 use constraints::row::Row;
 use field::field::Field;

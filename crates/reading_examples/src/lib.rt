@@ -9,11 +9,10 @@ use constraints::reader::{RowReader, open};
 use constraints::row::Row;
 
 // How many rows a reader has still to hand out. It is given up.
-pub fn count(reader: RowReader<'_>) -> u32
+pub fn count(mut reader: RowReader<'_>) -> u32
     ensures { (ls : List Line) → Ahead reader.entry ls → result ≡ length ls }
 {
-    let mut reader = reader;
-    let mut n: u32 = 0;
+    let mut n = 0;
     while let Some(_) = reader.next() {
         n += 1;
     }
@@ -22,12 +21,10 @@ pub fn count(reader: RowReader<'_>) -> u32
 }
 
 // The first row of a file over 97, after its reader was given up.
-pub fn first<'a>(bytes: &'a [u8]) -> Option<Row<'a>>
+pub fn first(bytes: &[u8]) -> Option<Row<'_>>
     ensures { IfSome result (λ w. (c : Circuit) → Encodes bytes.now 97 c → First c.rows w) }
 {
-    let Ok(mut reader) = open(bytes, 97) else {
-        return None;
-    };
+    let mut reader = open(bytes, 97).ok()?;
     let row = reader.next();
     reader.end();
     row
@@ -40,9 +37,7 @@ pub fn count_once(bytes: &mut [u8]) -> Option<u32>
     if bytes.is_empty() {
         return None;
     }
-    let Ok(reader) = open(bytes, 97) else {
-        return None;
-    };
+    let reader = open(bytes, 97).ok()?;
     let n = count(reader);
     bytes[0] = 0;
     Some(n)
