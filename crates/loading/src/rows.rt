@@ -16,6 +16,8 @@ use sheet::head::Head;
 use sheet::head::calls::enter;
 use sheet::matrix::Matrix;
 
+// Head and entries stay two parameters: a struct of the two `&mut` would have to promise at every method that both still refer to the same.
+
 // One item. The coefficients of an opened file are below its prime, and its wires within the sheet: there nothing is passed over.
 fn enter_item<F: FileField>(
     head: &mut Head,
