@@ -12,24 +12,18 @@ overflow_sub-r c =
     let s = c.stride_of-stride.result in
     omega (arith, div-add-mod' r s, le-mul_of_pos_right (r / s) c.stride_of-stride.ensures.some, c.if-r-stride-eq0.false)
 
-pub returns-then-r-stride-eq0 : goal.returns-then-r-stride-eq0
-returns-then-r-stride-eq0 c =
+pub returns-then-r-stride-eq0-clause-is : goal.returns-then-r-stride-eq0-clause-is
+returns-then-r-stride-eq0-clause-is c =
     let h = c.args.head.now in
     let r = c.args.r in
     let s = c.stride_of-stride.ensures.is in
     let rest : r % stride (shape_of h) ≡ 0 = rw s at c.if-r-stride-eq0.true in
-    record {
-      is = c.kind_of_multiple.ensures.is ∙ ap (λ t. public_kind (shape_of h) (r / t)) s ∙ sym (at_multiple (shape_of h) (head_fits h) r rest);
-      within = c.kind_of_multiple.ensures.within;
-    }
+    c.kind_of_multiple.ensures.is ∙ ap (λ t. public_kind (shape_of h) (r / t)) s ∙ sym (at_multiple (shape_of h) (head_fits h) r rest)
 
-pub returns-else-r-stride-eq0 : goal.returns-else-r-stride-eq0
-returns-else-r-stride-eq0 c =
+pub returns-else-r-stride-eq0-clause-is : goal.returns-else-r-stride-eq0-clause-is
+returns-else-r-stride-eq0-clause-is c =
     let h = c.args.head.now in
     let r = c.args.r in
     let s = c.stride_of-stride.ensures.is in
     let rest : r % stride (shape_of h) ≢ 0 = rw s at c.if-r-stride-eq0.false in
-    record {
-      is = c.kind_of_other.ensures.is ∙ ap (λ t. product_kind (shape_of h) (r - (r / t + 1))) s ∙ sym (at_other (shape_of h) (head_fits h) r rest);
-      within = c.kind_of_other.ensures.within;
-    }
+    c.kind_of_other.ensures.is ∙ ap (λ t. product_kind (shape_of h) (r - (r / t + 1))) s ∙ sym (at_other (shape_of h) (head_fits h) r rest)
