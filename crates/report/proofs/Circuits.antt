@@ -1,17 +1,15 @@
 -- The outcome of a circuit with an assignment file, and its text.
-use Rattle.std.proofs.Common.{◌≡◌, ℕ, ◌≤◌, min, List, length, Some, None, Ok, Err, sym, refl, ap, ◌∙◌, subst, arith}
+use Rattle.std.proofs.Common.{◌≡◌, ℕ, min, List, length, Some, None, Ok, Err, sym, refl, ap, ◌∙◌, subst}
 use native.Mathlib.Nat.{min-eq_left}
 use Rattle.refusal.specs.Due.{Due}
 use Rattle.refusal.specs.declared.refused.Refused.{Refused}
 use Rattle.field.specs.Operations.{Operations}
 use Rattle.field.specs.Laws.{Laws}
 use Rattle.frames.specs.Faults.{then}
-use Rattle.sheet.specs.Shape.{log_of_n}
 use Rattle.sheet.specs.Outcomes.{Answer}
-use Rattle.sheet.specs.Model.{Model, sheet, Stands}
+use Rattle.sheet.specs.Model.{sheet}
 use Rattle.sheet.specs.declared.head.Head.{Head}
 use Rattle.sheet.specs.declared.entry.Entry.{Entry}
-use Rattle.square.proofs.Heads.{shape_same, log_of_n_same}
 use Rattle.constraints.specs.declared.reader.RowReader.{RowReader}
 use Rattle.constraints.specs.Circuit.{Circuit}
 use Rattle.constraints.specs.Reader.{again, Starts}
@@ -20,12 +18,6 @@ use Rattle.solving.specs.Taken.{files_model, sheet_due, witness_due, TakesFiles}
 use Rattle.solving.proofs.Files.{files_one, files_within, owed_by_files}
 use Rattle.writing.specs.declared.writer.Writer.{Writer}
 use Rattle.report.specs.Outcome.{Outcome, refused, RefusedOr, Tells, longest, TellsModel, TellsCircuit}
-
--- a sheet that stands for a model has the root that its rows need
-pub root_there : {F : Type 0} (O : Operations F) (h : Head) (es : List (Entry F)) (vs : List F) (b : Model F) → Stands O (sheet h es vs) b → h.log_n ≤ O.adicity
-root_there O h es vs b stands =
-    let same : h.log_n ≡ log_of_n b.shape = log_of_n_same h ∙ ap log_of_n (shape_same h b.shape (length b.entries) stands.numbers) in
-    omega (arith, stands.root)
 
 -- what is said where a refusal is due, and where none is
 pub due_refused : (P : Type 0) (o : Outcome) (due : Due) (f : ℕ × ℕ) → due ≡ Some f → o ≡ refused f.0 f.1 → RefusedOr due o P

@@ -14,8 +14,6 @@ use Rattle.report.specs.Outcome.{longest, Tells}
 use Rattle.report.specs.Means.{ToldBy, TellsBy, Means}
 use Rattle.report.proofs.Circuits.{due_none, tells_map}
 
--- ── The outcome ──
-
 either_prime : (due : Due) → (prime_by due ≡ 97) ⊎ (prime_by due ≡ 12289)
 either_prime None = inl refl
 either_prime (Some fault) =

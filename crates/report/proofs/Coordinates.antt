@@ -1,5 +1,5 @@
 -- The text of elements, one coordinate and one element after another.
-use Rattle.std.proofs.Common.{◌≡◌, ℕ, zero, suc, ◌+◌, ◌*◌, ◌^◌, ◌<◌, ◌≤◌, ◌≢◌, min, List, [], ◌∷◌, ◌++◌, map, length, get_or, take, decimal, sym, refl, ap, ◌∙◌, append_assoc, append-nil, mul-le-mul_left, mul-one, mul-add, arith, length-take-le}
+use Rattle.std.proofs.Common.{◌≡◌, ℕ, ◌+◌, ◌*◌, ◌^◌, ◌<◌, ◌≤◌, min, List, [], ◌∷◌, ◌++◌, map, length, get_or, take, decimal, sym, refl, ap, ◌∙◌, append_assoc, append-nil, mul-le-mul_left, mul-one, mul-add, arith, length-take-le}
 use mathlib.Core.List.{map-append}
 use Rattle.std.proofs.lemmas.List.{take_more, take_all}
 use Rattle.std.proofs.lemmas.Nat.{pow_pos}
@@ -10,14 +10,6 @@ use Rattle.report.proofs.Texts.{append_none, append_both}
 
 pub five_digits : (c : ℕ) → c < 2 ^ 16 → length (decimal c) ≤ 5
 five_digits c h = length-decimal-le 5 c (omega arith) (omega arith) (omega arith)
-
-pub piece_first : (i c : ℕ) → i ≡ 0 → piece i c ≡ decimal c
-piece_first zero c e = refl
-piece_first (suc i) c e = absurd (omega arith)
-
-pub piece_later : (i c : ℕ) → i ≢ 0 → piece i c ≡ 44 ∷ decimal c
-piece_later zero c h = absurd (h refl)
-piece_later (suc i) c h = refl
 
 behind_push : (byte : ℕ) (vs : List ℕ) (v : ℕ) → each_behind byte (vs ++ (v ∷ [])) ≡ each_behind byte vs ++ (byte ∷ decimal v)
 unfolding each_behind

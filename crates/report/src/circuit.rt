@@ -22,7 +22,7 @@ pub(crate) const LONGEST: usize = 65536;
 const WIRES: usize = 2048;
 
 // The text of a circuit with a witness, unless one of the files is refused. The value table has a place for each wire, as far as a sheet
-// can have so many.
+// can have so many. The tables are parameters, as a sheet's buffers are.
 fn tell_filled<F: TextField>(
     reader: RowReader<'_>,
     doublings: u32,

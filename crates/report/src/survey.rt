@@ -47,7 +47,8 @@ fn append_polynomials<F: TextField>(out: &mut Writer<'_>, divided: &[F], publish
     append_line(out, b"public", published);
 }
 
-// The text of a sheet: its numbers, then the two polynomials or the row that fails.
+// The text of a sheet: its numbers, then the two polynomials or the row that fails. Its buffers are parameters, since a proof names a lent
+// slice by its parameter.
 fn tell_within<F: TextField>(
     head: &Head,
     doublings: u32,

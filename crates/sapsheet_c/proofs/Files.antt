@@ -18,7 +18,7 @@ use Rattle.assignments.specs.Assignment.{Encodes}
 use Rattle.loading.specs.Loaded.{circuit_due}
 use Rattle.solving.specs.Taken.{files_model, sheet_due, witness_due}
 use Rattle.solving.proofs.Files.{files_one, files_within, owed_by_files}
-use Rattle.sapsheet_c.specs.Outcome.{Outcome, refused}
+use Rattle.sapsheet_c.specs.Outcome.{Outcome}
 use Rattle.sapsheet_c.specs.Means.{RefusedOr, SolvedWithin, MeansWith}
 use Rattle.sapsheet_c.specs.Parts.{Answers, AnswersSheet}
 

@@ -20,7 +20,8 @@ use writing::writer::Writer;
 // The most wires of a sheet.
 const WIRES: usize = 2048;
 
-// The quotient is made in a buffer of its own, so that nothing is written where a row fails.
+// The quotient is made in a buffer of its own, so that nothing is written where a row fails. The buffers are parameters, since a proof
+// names a lent slice by its parameter.
 fn answer_within<F: PrimeField>(
     head: &Head,
     entries: &[Entry<F>],

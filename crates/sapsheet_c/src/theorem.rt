@@ -3,5 +3,4 @@ ghost use Rattle.sapsheet_c.specs.Means.{OneOutcome};
 
 pub fn one_outcome()
     ensures { OneOutcome }
-{
-}
+{}

@@ -1,10 +1,6 @@
 use Rattle.std.proofs.lemmas.Result.{err_from_is_err_and}
-use Rattle.report.proofs.Circuits.{root_there, tells_filled, tells_refused}
+use Rattle.report.proofs.Circuits.{tells_filled, tells_refused}
 use Rattle.report.proofs.circuit.tell_filled.Goals as goal
-
-pub tell_sheet-requires-clause-root : goal.tell_sheet-requires-clause-root
-tell_sheet-requires-clause-root g c =
-    root_there g.F.Field.ops c.in_ok-head.head _ _ _ c.in_ok-head.ensures.reader.1.1.stands
 
 pub returns-in_err-head : goal.returns-in_err-head
 returns-in_err-head g c =
