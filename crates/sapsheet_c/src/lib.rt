@@ -8,9 +8,9 @@ ghost use Rattle.sapsheet_c.specs.Parts.{Answers};
 
 use crate::answer::answer_reader;
 use modular::f97::F97;
+use modular::f12289::F12289;
 use refusal::refused::Refused;
 use solving::open::open_known;
-use modular::f12289::F12289;
 
 mod answer;
 mod fields;

@@ -21,13 +21,7 @@ fn enters<F>(matrix: u32, wire: u32, coefficient: F) -> Call<F> {
 }
 
 // One row: (a x) x = c, with x on wire 1, which is public or not.
-fn survey_row<F: FileField>(
-    rt: &HostRuntime,
-    publics: u32,
-    a: F,
-    x: F,
-    c: F,
-) -> io::Result<()> {
+fn survey_row<F: FileField>(rt: &HostRuntime, publics: u32, a: F, x: F, c: F) -> io::Result<()> {
     let counts = Counts {
         wires: 2,
         publics,

@@ -2,8 +2,7 @@
 use field::file_field::FileField;
 use refusal::answer::Answer;
 use refusal::refused::Refused;
-use std::fmt;
-use std::io;
+use std::{fmt, io};
 
 // What a call answered.
 pub(crate) fn tell(rt: &impl Print, what: &str, answer: Result<(), Refused>) -> io::Result<()> {

@@ -8,9 +8,9 @@ returns-then-self-eq0-clause-steps c =
     let s = c.args.self.now in
     let no : 0 < s.left → s.stop ≤ length s.bytes.now → s.at ≤ s.stop → ⊥ =
     λ a b d. elim c.then-self-eq0.branch [
-      goal.then-self-eq0-via-then-self-eq0 w ↦ omega (arith, w.if-self-eq0.true)
-    | goal.then-self-eq0-via-else-self-eq0+then-self w ↦ omega (arith, w.if-self.true)
-    | goal.then-self-eq0-via-else-self-eq0+else-self+then-self-2 w ↦ omega (arith, w.if-self-2.true)
+      | goal.then-self-eq0-via-then-self-eq0 w ↦ omega (arith, w.if-self-eq0.true)
+      | goal.then-self-eq0-via-else-self-eq0+then-self w ↦ omega (arith, w.if-self.true)
+      | goal.then-self-eq0-via-else-self-eq0+else-self+then-self-2 w ↦ omega (arith, w.if-self-2.true)
     ] in
     record {
       kept = refl;
