@@ -12,13 +12,8 @@ fn print_header(rt: &impl Print, h: Header) -> io::Result<()> {
     )
 }
 
-// The items of a list; the twelve bytes of each bound their count.
 fn print_list(rt: &impl Print, part: &[u8]) -> io::Result<()> {
-    let mut items = ItemReader::new(part);
-    for _ in part {
-        let Some(item) = items.next() else {
-            break;
-        };
+    for item in ItemReader::new(part) {
         print!(rt; " {}:{}", item.wire, item.coefficient)?;
     }
     print!(rt; ";")

@@ -14,6 +14,7 @@ use crate::term::Term;
 use field::field::Field;
 use sheet::entry::Entry;
 use sheet::head::Head;
+use sheet::matrix::Matrix;
 
 // x times what stands for a wire of the sheet in product rows, at wire w.
 fn at_image<F: Field>(head: &Head, wire: usize, x: F, w: usize) -> F
@@ -51,11 +52,11 @@ impl<F: Field> Combination<F> {
     fn factor(&self, matrix: u32) -> F
         ensures { result ≡ matrix_factor F.ops self.now matrix }
     {
-        match matrix {
-            0 => self.a,
-            1 => self.b,
-            2 => self.c,
-            _ => F::zero(),
+        match Matrix::try_from(matrix) {
+            Ok(Matrix::A) => self.a,
+            Ok(Matrix::B) => self.b,
+            Ok(Matrix::C) => self.c,
+            Err(_) => F::zero(),
         }
     }
 

@@ -1,17 +1,18 @@
-use Rattle.std.proofs.Common.{◌∙◌, arith}
+use Rattle.std.proofs.Common.{◌≤◌, ◌∙◌, arith, rules}
 use Rattle.square_rows.proofs.Weighted.{factor_a, factor_b, factor_c, factor_none}
 use Rattle.square_rows.proofs.combination.Combination.factor.Goals as goal
 
-pub returns-in-0 : goal.returns-in-0
-returns-in-0 g c = factor_a g.met.F.Field.laws c.args.self.now c.args.matrix (omega arith)
+pub returns-in-Ok-A : goal.returns-in-Ok-A
+returns-in-Ok-A g c = factor_a g.met.F.Field.laws c.args.self.now c.args.matrix (search rules)
 
-pub returns-in-1 : goal.returns-in-1
-returns-in-1 g c = factor_b g.met.F.Field.laws c.args.self.now c.args.matrix (omega arith)
+pub returns-in-Ok-B : goal.returns-in-Ok-B
+returns-in-Ok-B g c = factor_b g.met.F.Field.laws c.args.self.now c.args.matrix (search rules)
 
-pub returns-in-2 : goal.returns-in-2
-returns-in-2 g c = factor_c g.met.F.Field.laws c.args.self.now c.args.matrix (omega arith)
+pub returns-in-Ok-C : goal.returns-in-Ok-C
+returns-in-Ok-C g c = factor_c g.met.F.Field.laws c.args.self.now c.args.matrix (search rules)
 
-pub returns-in_default : goal.returns-in_default
-returns-in_default g c =
+pub returns-in-Err : goal.returns-in-Err
+returns-in-Err g c =
+    let past : 3 ≤ c.args.matrix = search rules in
     c.zero.ensures
     ∙ factor_none g.met.F.Field.laws c.args.self.now c.args.matrix (λ e. omega arith) (λ e. omega arith) (λ e. omega arith)
