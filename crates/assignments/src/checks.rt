@@ -53,6 +53,7 @@ fn check_values(body: Payload<'_>, prime: u64) -> Result<(), Refused>
 {
     let mut at = body.at;
     let mut rest = body.bytes;
+    // taken off the front: parts of 8 bytes would have to be made arrays first, which is no plainer
     while let Some((value, after)) = long(rest) {
         if value >= prime {
             return Err(Refusal::TooLarge.at(at));

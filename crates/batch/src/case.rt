@@ -51,18 +51,23 @@ impl<'a> Case<'a> {
         Ok(part)
     }
 
+    // What `read` finds at the front.
+    fn take<T, R: Fn(&'a [u8]) -> Option<(T, &'a [u8])>>(&mut self, read: R) -> Result<T, Malformed>
+        requires { R.IsAlwaysCallable read }
+    {
+        let (value, rest) = read(self.rest).ok_or(Malformed)?;
+        self.rest = rest;
+        Ok(value)
+    }
+
     // A 4-byte number.
     pub(crate) fn word(&mut self) -> Result<u32, Malformed> {
-        let (number, rest) = word(self.rest).ok_or(Malformed)?;
-        self.rest = rest;
-        Ok(number)
+        self.take(word)
     }
 
     // An 8-byte number.
     pub(crate) fn long(&mut self) -> Result<u64, Malformed> {
-        let (number, rest) = long(self.rest).ok_or(Malformed)?;
-        self.rest = rest;
-        Ok(number)
+        self.take(long)
     }
 
     // A length of 4 bytes.

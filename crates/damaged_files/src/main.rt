@@ -197,10 +197,8 @@ fn assigned(bytes: &[u8], table: &mut [F97]) -> Option<(u32, usize)> {
 impl DamagedCircuit {
     fn is_as_said(&self) -> bool {
         let mut copy = CIRCUIT;
-        match self.damage.applied(&mut copy) {
-            Some(bytes) => opened(bytes) == self.refused,
-            None => false,
-        }
+        let bytes = self.damage.applied(&mut copy);
+        bytes.is_some_and(|bytes| opened(bytes) == self.refused)
     }
 }
 

@@ -11,6 +11,6 @@ pub enum Section<'a> {
     Header(&'a [u8]),
     // the rows of a constraint file, the values of an assignment file
     Body(&'a [u8]),
-    // passed over
+    // passed over; its kind may be any number, so it stays one
     Other { kind: u32, bytes: &'a [u8] },
 }

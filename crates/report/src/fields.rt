@@ -17,7 +17,7 @@ pub(crate) trait TextField: FileField {
     // a polynomial over a subgroup of the field has at most so many coordinates
     ghost narrow: { Self.width * min (2 ^ Self.ops.adicity) 2048 ≤ 2048 };
 
-    // the largest table and the largest buffer fit in memory
+    // the largest table and the largest buffer fit in memory; the C entry says so of its own fields, as no crate below both knows any
     ghost table: { FitsBlock (the_row Self.row) 2048 };
 
     ghost buffer: { FitsBlock Self.row 11264 };

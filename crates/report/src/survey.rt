@@ -25,7 +25,7 @@ pub(crate) fn append_refusal(out: &mut Writer<'_>, e: Refused)
     append_numbers(out, b"refused", e.reason.number() as u64, e.at as u64);
 }
 
-// Prime and doublings, n and k.
+// Prime and doublings, n and k. The doublings come as the number that is printed.
 fn append_sheet(out: &mut Writer<'_>, prime: u64, doublings: u32, head: &Head)
     requires { 95 ≤ length (rest out.old) }
     ensures text { Appended out.old (sheet_lines prime doublings head.now.n head.now.k) out.new }

@@ -16,7 +16,7 @@ use writing::writer::Writer;
 // A buffer of so many bytes has room for every text.
 pub const TEXT_ROOM: usize = 32768;
 
-// The text of two files, unless one of them is refused.
+// The text of two files, unless one of them is refused. The room is asked for here and not kept by the writer, since it shrinks.
 fn tell_files(circuit: &[u8], witness: &[u8], out: &mut Writer<'_>) -> Result<(), Refused>
     requires { text_room ≤ length (rest out.old) }
     ensures { Tells (Means circuit.now witness.now) out.old result out.new }

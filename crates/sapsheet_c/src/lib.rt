@@ -34,6 +34,7 @@ fn answer_files(circuit: &[u8], witness: &[u8], answer: &mut [u8]) -> Result<(),
 pub extern "C" fn sapsheet_quotient(circuit: &[u8], witness: &[u8], answer: &mut [u8]) -> u32
     ensures { (o : Outcome) × Means circuit.now witness.now (length answer.old) o × Answered o answer.old result answer.new }
 {
+    // C has numbers alone
     match answer_files(circuit, witness, answer) {
         Ok(()) => 0,
         Err(e) => e.reason.number(),

@@ -29,9 +29,7 @@ pub fn write_program<F: FileField>(
         return Err(Refusal::Inconsistent.at(0));
     }
     let program = Program { head, used };
-    let Some(size) = program.rows_size() else {
-        return Err(Refusal::NotANumber.at(0));
-    };
+    let size = program.rows_size().ok_or(Refusal::NotANumber.at(0))?;
     // the start, the three heads and the header take 88 bytes
     let length = 88 + size + 8 * head.columns();
     if out.len() < length {

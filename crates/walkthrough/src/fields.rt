@@ -8,12 +8,13 @@ use modular::f12289::F12289;
 use quadratic::quadratic::Quadratic;
 use sheet::call::Call;
 use sheet::counts::Counts;
+use sheet::matrix::Matrix;
 use std::io;
 
-fn enters<F>(matrix: u32, wire: u32, coefficient: F) -> Call<F> {
+fn enters<F>(matrix: Matrix, wire: u32, coefficient: F) -> Call<F> {
     Call::Enter {
         entries: 2048,
-        matrix,
+        matrix: matrix.number(),
         row: 0,
         wire,
         coefficient,
@@ -28,9 +29,9 @@ fn survey_row<F: FileField>(rt: &HostRuntime, publics: u32, a: F, x: F, c: F) ->
         rows: 1,
     };
     let calls = [
-        enters(0, 1, a),
-        enters(1, 1, F::one()),
-        enters(2, 0, c),
+        enters(Matrix::A, 1, a),
+        enters(Matrix::B, 1, F::one()),
+        enters(Matrix::C, 0, c),
         Call::Assign {
             values: 2,
             wire: 1,

@@ -5,14 +5,15 @@ use field::field::Field;
 use modular::f97::F97;
 use sheet::call::Call;
 use sheet::counts::Counts;
+use sheet::matrix::Matrix;
 use std::io;
 use transform::interpolate::interpolate;
 use transform::polynomial::Polynomial;
 
-fn enters(entries: usize, matrix: u32, wire: u32) -> Call<F97> {
+fn enters(entries: usize, matrix: Matrix, wire: u32) -> Call<F97> {
     Call::Enter {
         entries,
-        matrix,
+        matrix: matrix.number(),
         row: 0,
         wire,
         coefficient: F97::one(),
@@ -22,10 +23,10 @@ fn enters(entries: usize, matrix: u32, wire: u32) -> Call<F97> {
 // x · x = 1 with x on wire 1. One call is handed an entry table that is too short, and one would assign to wire 0.
 fn listed(x: F97) -> [Call<F97>; 6] {
     [
-        enters(2048, 0, 1),
-        enters(2047, 1, 1),
-        enters(2048, 1, 1),
-        enters(2048, 2, 0),
+        enters(2048, Matrix::A, 1),
+        enters(2047, Matrix::B, 1),
+        enters(2048, Matrix::B, 1),
+        enters(2048, Matrix::C, 0),
         Call::Assign {
             values: 2,
             wire: 1,

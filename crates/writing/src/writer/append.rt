@@ -40,7 +40,7 @@ impl<'a> Writer<'a> {
         }
     }
 
-    // A 4-byte number.
+    // A 4-byte number. Apart from the next, since a bound for whatever has little-endian bytes would be no plainer.
     pub fn put_word(&mut self, word: u32)
         ensures { Writes self.old (little 4 word) self.new }
     {

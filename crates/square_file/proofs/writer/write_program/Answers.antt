@@ -1,4 +1,5 @@
 use Rattle.std.proofs.Common.{◌≡◌, ℕ, ◌+◌, ◌-◌, ◌*◌, ◌++◌, length, take, drop, Some, sym, refl, ap, ◌∙◌, ap₂, arith}
+use Rattle.std.proofs.lemmas.Option.{MatchOption-at_some}
 use Rattle.refusal.specs.Numbers.{number_of}
 use Rattle.sheet.specs.Outcomes.{shape_of}
 use Rattle.square.specs.Rows.{position}
@@ -20,7 +21,7 @@ returns-then-out-length g c =
     let all = c.args.entries.now in
     let used = take (c.used.result - 0) all in
     let count : c.used.result - 0 ≡ h.used = omega (arith, c.used.ensures) in
-    let rows = c.in-Some.ensures in
+    let rows = MatchOption-at_some _ _ _ c.in_ok-size.ensures.ok_part c.rows_size.ensures in
     let size = length_square O p S (position O used) in
     let due = too_short O p S used (length all) (length c.args.out.now) (omega arith) (sym c.if-not-are_inside.ensures) rows.0
     (omega (arith, size, rows.1, columns_same h, c.columns.ensures.is, c.if-out-length.true)) in
@@ -37,7 +38,8 @@ pub write-requires-clause-room : goal.write-requires-clause-room
 write-requires-clause-room g c =
     let h = c.args.head.now in
     let size = length_square g.F.Field.ops g.F.FileField.prime (shape_of h) (position g.F.Field.ops (take (c.used.result - 0) c.args.entries.now)) in
-    omega (arith, size, c.in-Some.ensures.1, columns_same h, c.columns.ensures.is, c.if-out-length.false)
+    let rows = MatchOption-at_some _ _ _ c.in_ok-size.ensures.ok_part c.rows_size.ensures in
+    omega (arith, size, rows.1, columns_same h, c.columns.ensures.is, c.if-out-length.false)
 
 pub returns : goal.returns
 returns g c =
@@ -50,9 +52,9 @@ returns g c =
     let used = take (c.used.result - 0) all in
     let t = position O used in
     let count : c.used.result - 0 ≡ h.used = omega (arith, c.used.ensures) in
-    let rows = c.in-Some.ensures in
+    let rows = MatchOption-at_some _ _ _ c.in_ok-size.ensures.ok_part c.rows_size.ensures in
     let size = length_square O p S t in
-    let k : ℕ = 88 + c.in-Some.size + 8 * c.columns.result in
+    let k : ℕ = 88 + c.in_ok-size.size + 8 * c.columns.result in
     let long : k ≡ length (square_file_bytes O p S t) = omega (arith, size, rows.1, columns_same h, c.columns.ensures.is) in
     let due = nothing_due O p S used (length all) (length out) (omega arith) (sym c.if-not-are_inside.ensures) rows.0 (omega (arith, long, c.if-out-length.false)) in
     let whole : c.write.new.out ≡ square_file_bytes O p S t ++ drop k out = c.write.ensures.file ∙ ap (λ m. square_file_bytes O p S t ++ drop m out) (sym long) in

@@ -156,6 +156,7 @@ impl<F: Field> Terms<'_, F> {
     {
         let stop = self.head.columns();
         let mut at = self.from;
+        // no `for`: each step goes to the next wire that an entry may add to
         while at < stop {
             let wire = self.wire_after(at);
             if wire == stop {
