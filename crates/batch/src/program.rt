@@ -3,7 +3,6 @@ use crate::case::Case;
 use crate::circuit::print_opened;
 use crate::print::Hex;
 use field::file_field::FileField;
-use sheet::counts::Counts;
 use sheet::entry::Entry;
 use sheet::head::Head;
 use sheet::head::calls::{TABLE_SIZE, enter, plan};
@@ -42,31 +41,8 @@ fn print_file<F: FileField>(
     }
 }
 
-// The table that is lent has so many places; only a table of the stated length is entered into.
-fn print_program<F: FileField>(
-    rt: &HostRuntime,
-    counts: Counts,
-    places: usize,
-    room: usize,
-    entered: &[Entry<F>],
-    laid: &[Entry<F>],
-) -> io::Result<()> {
-    let blank = Entry::<F>::blank();
-    match plan::<F>(counts) {
-        Ok(mut head) => {
-            let mut table = vec![in rt.alloc(); blank; TABLE_SIZE]?;
-            enter_all(&mut head, &mut table, entered);
-            lay_over(&mut table, laid);
-            let mut lent = vec![in rt.alloc(); blank; places]?;
-            lay_over(&mut lent, &table);
-            print_file(rt, &head, &lent, room)
-        }
-        Err(e) => print!(rt; "{e}"),
-    }
-}
-
-// The sheet's numbers, the places of the table, the room for the file, and two lists of entries, how many first: those that are entered,
-// and those that are laid over the table's first places.
+// The sheet's numbers, the places of the table that is lent, the room for the file, and two lists of entries, how many first: those that
+// are entered into a table of the stated length, and those that are laid over its first places.
 pub(crate) fn answer<F: FileField>(rt: &HostRuntime, mut case: Case<'_>) -> io::Result<()> {
     let counts = case.counts()?;
     let places = case.length()?;
@@ -76,6 +52,17 @@ pub(crate) fn answer<F: FileField>(rt: &HostRuntime, mut case: Case<'_>) -> io::
     let entered = case.list(rt.alloc(), entered_count, |c| c.entry::<F>())?;
     let laid = case.list(rt.alloc(), laid_count, |c| c.entry::<F>())?;
     case.end()?;
-    print_program(rt, counts, places, room, &entered, &laid)?;
+    let blank = Entry::<F>::blank();
+    match plan::<F>(counts) {
+        Ok(mut head) => {
+            let mut table = vec![in rt.alloc(); blank; TABLE_SIZE]?;
+            enter_all(&mut head, &mut table, &entered);
+            lay_over(&mut table, &laid);
+            let mut lent = vec![in rt.alloc(); blank; places]?;
+            lay_over(&mut lent, &table);
+            print_file(rt, &head, &lent, room)?;
+        }
+        Err(e) => print!(rt; "{e}")?,
+    }
     println!(rt; "")
 }

@@ -55,18 +55,19 @@ struct Sizes {
 
 // Where there is no such sheet any do.
 fn sizes_of<F: FileField>(counts: Counts) -> Sizes {
-    match plan::<F>(counts) {
-        Ok(head) => Sizes {
+    let any = Sizes {
+        wires: 1,
+        columns: 1,
+        n: 1,
+    };
+    plan::<F>(counts).map_or(
+        any,
+        |head| Sizes {
             wires: head.wires(),
             columns: head.columns(),
             n: head.n(),
         },
-        Err(_) => Sizes {
-            wires: 1,
-            columns: 1,
-            n: 1,
-        },
-    }
+    )
 }
 
 fn print_head(rt: &impl Print, head: &Head) -> io::Result<()> {

@@ -33,10 +33,7 @@ enum Doublings {
 fn lacks_root<F: Field>(counts: Counts) -> bool
     ensures { let S = counted counts in result ≡ (in_limits S && not (nat_le (log_of_n S) F.ops.adicity)) }
 {
-    match plan::<F>(counts) {
-        Ok(_) => false,
-        Err(e) => matches!(e.reason, Refusal::NoRoot),
-    }
+    plan::<F>(counts).is_err_and(|e| e.reason == Refusal::NoRoot)
 }
 
 // How often the field of 97 elements is doubled.
@@ -66,9 +63,9 @@ fn tell_over_97(reader: RowReader<'_>, witness: &[u8], out: &mut Writer<'_>) -> 
     ensures { TellsBy 97 reader.entry witness.now out.old result out.new }
 {
     match doublings_of(reader.header()) {
-        Doublings::Never => tell_circuit::<F97>(reader, 0, witness, out),
-        Doublings::Once => tell_circuit::<Quadratic<F97>>(reader, 1, witness, out),
-        Doublings::Twice => tell_circuit::<Quadratic<Quadratic<F97>>>(reader, 2, witness, out),
+        Doublings::Never => tell_circuit::<F97>(reader, witness, out),
+        Doublings::Once => tell_circuit::<Quadratic<F97>>(reader, witness, out),
+        Doublings::Twice => tell_circuit::<Quadratic<Quadratic<F97>>>(reader, witness, out),
     }
 }
 
@@ -85,6 +82,6 @@ pub(crate) fn tell_reader(
     if reader.header().prime == 97 {
         tell_over_97(reader, witness, out)
     } else {
-        tell_circuit::<F12289>(reader, 0, witness, out)
+        tell_circuit::<F12289>(reader, witness, out)
     }
 }

@@ -1,5 +1,5 @@
 // Fields of which the call tells: those with texts that it has room for.
-ghost use Rattle.std.specs.Prelude.{◌*◌, ◌^◌, ◌≤◌, min};
+ghost use Rattle.std.specs.Prelude.{ℕ, ◌*◌, ◌^◌, ◌≤◌, min};
 ghost use Rattle.std.specs.Allocator.{FitsBlock};
 ghost use Rattle.std.proofs.Common.{lit≤};
 ghost use Rattle.sheet.specs.contracts.entry.Entry.{the_row};
@@ -11,6 +11,11 @@ use modular::f12289::F12289;
 use quadratic::quadratic::Quadratic;
 
 pub(crate) trait TextField: FileField {
+    // how often the field of its prime is doubled
+    ghost DOUBLINGS: { ℕ };
+
+    const DOUBLINGS: u32;
+
     // a coordinate has at most five digits
     ghost small: { Self.prime ≤ 2 ^ 16 };
 
@@ -24,6 +29,10 @@ pub(crate) trait TextField: FileField {
 }
 
 impl TextField for F97 {
+    ghost DOUBLINGS = { 0 };
+
+    const DOUBLINGS: u32 = 0;
+
     ghost small = { lit≤ tt };
 
     ghost narrow = { lit≤ tt };
@@ -34,6 +43,10 @@ impl TextField for F97 {
 }
 
 impl TextField for Quadratic<F97> {
+    ghost DOUBLINGS = { 1 };
+
+    const DOUBLINGS: u32 = 1;
+
     ghost small = { lit≤ tt };
 
     ghost narrow = { lit≤ tt };
@@ -44,6 +57,10 @@ impl TextField for Quadratic<F97> {
 }
 
 impl TextField for Quadratic<Quadratic<F97>> {
+    ghost DOUBLINGS = { 2 };
+
+    const DOUBLINGS: u32 = 2;
+
     ghost small = { lit≤ tt };
 
     ghost narrow = { lit≤ tt };
@@ -54,6 +71,10 @@ impl TextField for Quadratic<Quadratic<F97>> {
 }
 
 impl TextField for F12289 {
+    ghost DOUBLINGS = { 0 };
+
+    const DOUBLINGS: u32 = 0;
+
     ghost small = { lit≤ tt };
 
     ghost narrow = { lit≤ tt };

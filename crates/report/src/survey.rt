@@ -25,7 +25,7 @@ pub(crate) fn append_refusal(out: &mut Writer<'_>, e: Refused)
     append_numbers(out, b"refused", e.reason.number() as u64, e.at as u64);
 }
 
-// Prime and doublings, n and k. The doublings come as the number that is printed.
+// Prime and doublings, n and k.
 fn append_sheet(out: &mut Writer<'_>, prime: u64, doublings: u32, head: &Head)
     requires { 95 ≤ length (rest out.old) }
     ensures text { Appended out.old (sheet_lines prime doublings head.now.n head.now.k) out.new }
@@ -51,7 +51,6 @@ fn append_polynomials<F: TextField>(out: &mut Writer<'_>, divided: &[F], publish
 // slice by its parameter.
 fn tell_within<F: TextField>(
     head: &Head,
-    doublings: u32,
     entries: &[Entry<F>],
     values: &[F],
     divided: &mut [F],
@@ -64,9 +63,9 @@ fn tell_within<F: TextField>(
     requires published { length published.old ≡ head.now.n }
     requires work { length work.old ≡ head.now.columns + 4 * head.now.n }
     requires room { text_room ≤ length (rest out.old) }
-    ensures { TellsModel F.ops F.coordinates F.prime doublings (sheet head.now entries.now values.now) out.old out.new }
+    ensures { TellsModel F.ops F.coordinates F.prime F.DOUBLINGS (sheet head.now entries.now values.now) out.old out.new }
 {
-    append_sheet(out, F::prime(), doublings, head);
+    append_sheet(out, F::prime(), F::DOUBLINGS, head);
     match quotient(head, entries, values, divided, work) {
         Ok(()) => {
             // granted wherever the quotient is
@@ -80,14 +79,13 @@ fn tell_within<F: TextField>(
 // The same, with buffers of the largest lengths: n is at most 2048, and M at most 2048 + 2 · 256 + 512.
 pub(crate) fn tell_sheet<F: TextField>(
     head: &Head,
-    doublings: u32,
     entries: &[Entry<F>],
     values: &[F],
     out: &mut Writer<'_>,
 )
     requires root { head.now.log_n ≤ F.ops.adicity }
     requires room { text_room ≤ length (rest out.old) }
-    ensures { TellsModel F.ops F.coordinates F.prime doublings (sheet head.now entries.now values.now) out.old out.new }
+    ensures { TellsModel F.ops F.coordinates F.prime F.DOUBLINGS (sheet head.now entries.now values.now) out.old out.new }
 {
     let mut divided = [F::zero(); 2047];
     let mut published = [F::zero(); 2048];
@@ -96,7 +94,5 @@ pub(crate) fn tell_sheet<F: TextField>(
     let divided = &mut divided[..n - 1];
     let published = &mut published[..n];
     let work = &mut work[..head.columns() + 4 * n];
-    tell_within(
-        head, doublings, entries, values, divided, published, work, out,
-    );
+    tell_within(head, entries, values, divided, published, work, out);
 }

@@ -13,12 +13,9 @@ use refusal::refused::Refused;
 use sheet::entry::Entry;
 use sheet::head::Head;
 use sheet::head::calls::TABLE_SIZE;
-use solving::fill::fill;
+use solving::fill::{WIRES, fill};
 use square::quotient::quotient;
 use writing::writer::Writer;
-
-// The most wires of a sheet.
-const WIRES: usize = 2048;
 
 // The quotient is made in a buffer of its own, so that nothing is written where a row fails. The buffers are parameters, since a proof
 // names a lent slice by its parameter.

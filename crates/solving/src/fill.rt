@@ -10,6 +10,9 @@ use refusal::refused::Refused;
 use sheet::entry::Entry;
 use sheet::head::Head;
 
+// The most wires of a sheet.
+pub const WIRES: usize = 2048;
+
 // Loads an opened constraint file, then reads an assignment file of at most so many bytes into the sheet's values. The two tables are
 // working buffers where this is refused. `reader` holds of any reader, `circuit` of one that stands over the rows of a circuit.
 pub fn fill<F: FileField>(

@@ -12,10 +12,7 @@ pub fn open_known(circuit: &[u8]) -> Result<RowReader<'_>, Refused>
     ensures circuit { ReadsCircuit circuit.now (prime_of circuit.now) result }
 {
     match open(circuit, 97) {
-        Ok(reader) => Ok(reader),
-        Err(e) => match e.reason {
-            Refusal::OtherPrime => open(circuit, 12289),
-            _ => Err(e),
-        },
+        Err(e) if e.reason == Refusal::OtherPrime => open(circuit, 12289),
+        told => told,
     }
 }

@@ -4,13 +4,14 @@
 #[cfg(test)]
 mod tests {
     use modular::f97::F97;
+    use refusal::reason::Refusal;
     use refusal::refused::Refused;
     use transform::interpolate::interpolate;
     use transform::polynomial::Polynomial;
 
-    // The number of the refusal; None where the call was granted.
-    fn refusal(answer: Result<(), Refused>) -> Option<u32> {
-        answer.err().map(|e| e.reason.number())
+    // Why a call was refused; None where it was granted.
+    fn refusal(answer: Result<(), Refused>) -> Option<Refusal> {
+        answer.err().map(|e| e.reason)
     }
 
     fn all_seven(elements: &[F97]) -> bool {
@@ -34,8 +35,14 @@ mod tests {
     fn refuses_wrong_lengths(rt: HostRuntime) {
         let values = [F97::new(1); 4];
         let mut out = [F97::new(7); 3];
-        assert_eq!(rt; refusal(interpolate(&values, &mut out)), Some(5));
-        assert_eq!(rt; refusal(interpolate(&values[0..3], &mut out)), Some(5));
+        assert_eq!(rt;
+            refusal(interpolate(&values, &mut out)),
+            Some(Refusal::WrongLength)
+        );
+        assert_eq!(rt;
+            refusal(interpolate(&values[0..3], &mut out)),
+            Some(Refusal::WrongLength)
+        );
         assert!(rt; all_seven(&out));
     }
 
@@ -44,7 +51,10 @@ mod tests {
         // 97 - 1 is a multiple of 32 and not of 64
         let values = [F97::new(1); 64];
         let mut out = [F97::new(7); 64];
-        assert_eq!(rt; refusal(interpolate(&values, &mut out)), Some(2));
+        assert_eq!(rt;
+            refusal(interpolate(&values, &mut out)),
+            Some(Refusal::NoRoot)
+        );
         assert!(rt; all_seven(&out));
     }
 
@@ -63,7 +73,7 @@ mod tests {
         // from X² on, (1 + 2 X)² has one coefficient
         assert_eq!(rt;
             refusal(Polynomial::new(&u).square_upper(&mut out)),
-            Some(5)
+            Some(Refusal::WrongLength)
         );
         let mut upper = [F97::new(7)];
         assert_eq!(rt; refusal(Polynomial::new(&u).square_upper(&mut upper)), None);

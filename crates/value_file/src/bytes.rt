@@ -39,7 +39,7 @@ fn put_numbers<F: FileField>(w: &mut Writer<'_>, values: &[F])
     }
 }
 
-// The whole file; p is the field's prime.
+// The whole file; p is the field's prime, which the caller has at hand, since what `prime` promises of it makes the file readable.
 fn put_file<F: FileField>(w: &mut Writer<'_>, values: &[F], p: u64)
     requires few { length values.now ≤ 3072 }
     requires named { p ≡ F.prime }

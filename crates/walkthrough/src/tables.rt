@@ -7,7 +7,19 @@ use sheet::call::Call;
 use sheet::counts::Counts;
 use sheet::entry::Entry;
 use sheet::head::calls::{TABLE_SIZE, plan};
+use sheet::matrix::Matrix;
 use std::io;
+
+// One entry in row 0, by a call that is handed an entry table of this length.
+pub(crate) fn enters<F>(entries: usize, matrix: Matrix, wire: u32, coefficient: F) -> Call<F> {
+    Call::Enter {
+        entries,
+        matrix: matrix.number(),
+        row: 0,
+        wire,
+        coefficient,
+    }
+}
 
 // What a survey answered and wrote.
 #[derive(Drop)]
@@ -58,14 +70,11 @@ pub(crate) fn survey_over<F: FileField>(
         spare_entries: &mut spare_entries,
         spare_values: &mut spare_values,
     };
-    Ok(match survey(counts, calls, lent) {
-        Ok(surveyed) => Ok(Told {
-            answers,
-            extended,
-            divided,
-            published,
-            quotient: surveyed.quotient,
-        }),
-        Err(e) => Err(e),
-    })
+    Ok(survey(counts, calls, lent).map(|surveyed| Told {
+        answers,
+        extended,
+        divided,
+        published,
+        quotient: surveyed.quotient,
+    }))
 }

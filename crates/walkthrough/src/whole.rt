@@ -1,32 +1,24 @@
 // The same sheet by one call that takes the whole list of calls, and its quotient multiplied out.
 use crate::print::{show, tell};
-use crate::tables::survey_over;
+use crate::tables::{enters, survey_over};
 use field::field::Field;
 use modular::f97::F97;
 use sheet::call::Call;
 use sheet::counts::Counts;
+use sheet::head::calls::TABLE_SIZE;
 use sheet::matrix::Matrix;
 use std::io;
 use transform::interpolate::interpolate;
 use transform::polynomial::Polynomial;
 
-fn enters(entries: usize, matrix: Matrix, wire: u32) -> Call<F97> {
-    Call::Enter {
-        entries,
-        matrix: matrix.number(),
-        row: 0,
-        wire,
-        coefficient: F97::one(),
-    }
-}
-
 // x · x = 1 with x on wire 1. One call is handed an entry table that is too short, and one would assign to wire 0.
 fn listed(x: F97) -> [Call<F97>; 6] {
+    let one = F97::one();
     [
-        enters(2048, Matrix::A, 1),
-        enters(2047, Matrix::B, 1),
-        enters(2048, Matrix::B, 1),
-        enters(2048, Matrix::C, 0),
+        enters(TABLE_SIZE, Matrix::A, 1, one),
+        enters(TABLE_SIZE - 1, Matrix::B, 1, one),
+        enters(TABLE_SIZE, Matrix::B, 1, one),
+        enters(TABLE_SIZE, Matrix::C, 0, one),
         Call::Assign {
             values: 2,
             wire: 1,
@@ -49,10 +41,8 @@ fn subtract(u: &mut [F97], w: &[F97]) {
 // u² - w and h (X^4 - 1), coefficient by coefficient. The rows of this sheet say, from the first:
 // z_0² = p, (x - x)² = s, 0² = q and (x + x)² = 4 (p - q) + s.
 fn multiply_out(rt: &impl Print, extended: &[F97], h: &[F97]) -> io::Result<()> {
-    let [one, x, p, q, s] = *extended else {
-        return Ok(());
-    };
     let zero = F97::zero();
+    let [one, x, p, q, s] = [0, 1, 2, 3, 4].map(|i| extended.get(i).copied().unwrap_or(zero));
     let four = F97::new(4);
     let left = [one, x.add(x.neg()), zero, x.add(x)];
     let right = [p, s, q, four.mul(p.add(q.neg())).add(s)];
