@@ -13,6 +13,9 @@ where that function is only a step of it, of the one that calls it. `tools/plant
 
 def enclosing(source, at):
     """The function that a place of the source stands in, and the definitions that its clauses cite."""
+    constant = re.match(r"\s*(?:const|ghost) (\w+)", source[at:])
+    if constant:
+        return constant.group(1), ""
     starts = [m for m in re.finditer(r"^\s*(?:pub(?:\([a-z]+\))? )?(?:extern \"C\" )?fn (\w+)", source, re.M) if m.start() <= at]
     if not starts:
         return "a table", ""
@@ -23,7 +26,7 @@ def enclosing(source, at):
     clause = source[last.end():min(ends)] if ends else ""
     names = re.findall(r"(?:\{ \(?|→ |result ≡ )([A-Za-z]\w*)(?![\w.])", " ".join(re.findall(r"ensures.*", clause)))
     imported = set(re.findall(r"\w+", " ".join(re.findall(r"^ghost use .*\{(.*)\};", source, re.M))))
-    cited = [n for n in dict.fromkeys(names) if n in imported]
+    cited = [n for n in dict.fromkeys(names) if n in imported and n != "length"]
     return last.group(1), ", ".join(cited[:2])
 
 
