@@ -26,7 +26,7 @@ fn answer(rt: &HostRuntime, kind: Kind, case: Case<'_>) -> io::Result<()> {
     }
 }
 
-// A case takes at least a byte, so there are no more of them than bytes.
+// A case takes at least a byte, so there are no more of them than bytes: the loop ends by that, with no measure of what is left.
 fn answer_all(rt: &HostRuntime, bytes: &[u8]) -> io::Result<()> {
     let mut cases = Case::new(bytes);
     for _ in bytes {

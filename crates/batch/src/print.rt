@@ -2,8 +2,8 @@
 use field::file_field::FileField;
 use std::fmt;
 
-// Elements, each behind a space, by their coordinates, which commas join: no field here has more than four. A program's
-// own: the library prints no elements, since it has no bound on their width.
+// Elements, each behind a space, by their coordinates, which commas join: no field here has more than four. Each of two
+// programs has its own: one for both would be a library's, with a contract that neither needs, which is no plainer.
 #[derive(Clone, Copy)]
 pub(crate) struct Elements<'a, F>(pub(crate) &'a [F]);
 

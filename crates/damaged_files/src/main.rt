@@ -26,7 +26,7 @@ impl Damage {
     }
 }
 
-// The number and the place by which a damaged file is refused, if it is.
+// The number and the place by which a damaged file is refused, if it is: a number, since that is what the other reader gave.
 #[derive(Clone, Copy)]
 struct DamagedCircuit {
     damage: Damage,

@@ -13,7 +13,7 @@ pub fn count(mut reader: RowReader<'_>) -> u32
     ensures { (ls : List Line) → Ahead reader.entry ls → result ≡ length ls }
 {
     let mut n = 0;
-    // a `for` would give the reader up itself; here `end` does
+    // a `for` would take the reader, and `end` is what is shown here
     while let Some(_) = reader.next() {
         n += 1;
     }

@@ -1,6 +1,6 @@
 -- Texts appended one after another.
 use Rattle.std.proofs.Common.{◌≡◌, ℕ, ◌+◌, ◌/◌, ◌%◌, ◌^◌, ◌<◌, ◌≤◌, List, [], ◌∷◌, ◌++◌, length, decimal, sym, ap, ◌∙◌, append_assoc, append-nil, arith, length-append, length-drop}
-use Rattle.std.proofs.lemmas.Fmt.{decimal_digit, decimal_step, length-decimal-le}
+use Rattle.std.proofs.lemmas.Fmt.{length-decimal-le}
 use Rattle.writing.specs.declared.writer.Writer.{Writer}
 use Rattle.writing.specs.Written.{rest, Writes}
 use Rattle.writing.proofs.Writers.{appends_none, appends_both}
@@ -26,22 +26,6 @@ append_both {x} {y} {z} {ys} {zs} p q =
       room = omega (arith, append_left p, q.room, length-append ys zs);
       appends = appends_both x y z ys zs p.appends q.appends;
     }
-
-decimal_longer : (v : ℕ) → 10 ≤ v → v < 2 ^ 64 → length (decimal v) ≡ length (decimal (v / 10)) + 1
-decimal_longer v h f = ap length (decimal_step v h f) ∙ length-append (decimal (v / 10)) ((48 + v % 10) ∷ [])
-
-pub decimal_shorter : (v : ℕ) → 10 ≤ v → v < 2 ^ 64 → length (decimal (v / 10)) ≤ length (decimal v)
-decimal_shorter v h f = omega (arith, decimal_longer v h f)
-
--- the last digit of a number, behind the others, if there are any
-pub append_last : {x y z : Writer} (v : ℕ) → 10 ≤ v → v < 2 ^ 64 → length (decimal v) ≤ length (rest x)
-    → Appended x (decimal (v / 10)) y → Writes y ((48 + v % 10) ∷ []) z → Appended x (decimal v) z
-append_last v h f room p q = append_same (sym (decimal_step v h f)) (append_both p (append_put (omega (arith, append_left p, decimal_longer v h f)) q))
-
-pub append_only : {x z : Writer} (v : ℕ) → v < 10 → length (decimal v) ≤ length (rest x) → Writes x ((48 + v % 10) ∷ []) z → Appended x (decimal v) z
-append_only v h room q =
-    let same : v % 10 ≡ v = omega arith in
-    append_same (ap (λ d. (48 + d) ∷ []) same ∙ sym (decimal_digit v h)) (append_put (omega (arith, ap length (decimal_digit v h))) q)
 
 -- ── Lines ──
 

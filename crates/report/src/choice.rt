@@ -69,7 +69,7 @@ fn tell_over_97(reader: RowReader<'_>, witness: &[u8], out: &mut Writer<'_>) -> 
     }
 }
 
-// The text of an opened circuit over either prime. No sheet needs a doubling of the larger field.
+// The text of an opened circuit over either prime, which the file gives as a number. No sheet needs a doubling of the larger field.
 pub(crate) fn tell_reader(
     reader: RowReader<'_>,
     witness: &[u8],

@@ -21,7 +21,7 @@ fn append_coordinate(out: &mut Writer<'_>, i: u32, c: u64)
     append_number(out, c);
 }
 
-// An element. Its coordinates are counted by hand, since the trait hands them out by number.
+// An element. The coordinates are counted, since a field tells its width to proofs alone, so there is no range to go over.
 fn append_element<F: TextField>(out: &mut Writer<'_>, x: F)
     requires { 6 * F.width ≤ length (rest out.old) }
     ensures text { Appended out.old (element_text (F.coordinates x)) out.new }

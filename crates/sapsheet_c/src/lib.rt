@@ -21,6 +21,7 @@ fn answer_files(circuit: &[u8], witness: &[u8], answer: &mut [u8]) -> Result<(),
     ensures { Answers (Means circuit.now witness.now (length answer.old)) answer.old result answer.new }
 {
     let reader = open_known(circuit)?;
+    // a file names its field by a number
     if reader.header().prime == 97 {
         answer_reader::<F97>(reader, witness, answer)
     } else {

@@ -10,8 +10,8 @@ pub(crate) fn tell(rt: &impl Print, what: &str, answer: Result<(), Refused>) -> 
     println!(rt; "{what}: {answer}")
 }
 
-// Elements, each behind a space, by their coordinates, which commas join: no field here has more than two. A program's
-// own: the library prints no elements, since it has no bound on their width.
+// Elements, each behind a space, by their coordinates, which commas join: no field here has more than two. Each of two
+// programs has its own: one for both would be a library's, with a contract that neither needs, which is no plainer.
 #[derive(Clone, Copy)]
 struct Elements<'a, F>(&'a [F]);
 
