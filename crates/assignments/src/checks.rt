@@ -53,7 +53,7 @@ fn check_values(body: Payload<'_>, prime: u64) -> Result<(), Refused>
 {
     let mut at = body.at;
     let mut rest = body.bytes;
-    // taken off the front: parts of 8 bytes would have to be made arrays first, which is no plainer
+    // taken off the front, each with what follows it; going over arrays of 8 bytes is still to be tried
     while let Some((value, after)) = long(rest) {
         if value >= prime {
             return Err(Refusal::TooLarge.at(at));
