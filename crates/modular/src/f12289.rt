@@ -1,4 +1,5 @@
 // The field of 12289 elements. 11 generates all but zero, so they multiply as their logarithms add.
+ghost use Rattle.std.specs.Prelude.{◌≡◌, ◌-◌, ◌*◌, ◌%◌, ◌^◌, MatchOption};
 ghost use Rattle.std.proofs.Common.{lit<, lit≤};
 ghost use Rattle.modular.specs.Laws12289.{arithmetic12289};
 
@@ -21,16 +22,20 @@ impl Prime<12289> for F12289 {
 
     const TOP: u32 = 1331;
 
-    fn product(x: u32, y: u32) -> u32 {
-        match (log(x), log(y)) {
+    fn product(x: F12289, y: F12289) -> u32
+        ensures { result ≡ (x.value * y.value) % 12289 }
+    {
+        match (log(x.value()), log(y.value())) {
             (Some(i), Some(j)) => power(i + j),
             (None, _) | (_, None) => 0,
         }
     }
 
     // 12288 is the order of 11.
-    fn inverse(x: u32) -> Option<u32> {
-        Some(power(12288 - log(x)?))
+    fn inverse(x: F12289) -> Option<u32>
+        ensures { MatchOption result (x.value ≡ 0) (λ y. (¬ (x.value ≡ 0)) × (y ≡ x.value ^ (12289 - 2) % 12289)) }
+    {
+        Some(power(12288 - log(x.value())?))
     }
 
     // The top is the cube of 11.

@@ -1,4 +1,5 @@
 // The field of 97 elements, whose products are found modulo 97, and inverses and roots of one in tables.
+ghost use Rattle.std.specs.Prelude.{◌≡◌, ◌-◌, ◌*◌, ◌%◌, ◌^◌, MatchOption};
 ghost use Rattle.std.proofs.Common.{lit<, lit≤};
 ghost use Rattle.modular.specs.Laws97.{arithmetic97};
 
@@ -31,11 +32,16 @@ impl Prime<97> for F97 {
 
     const TOP: u32 = 28;
 
-    fn product(x: u32, y: u32) -> u32 {
-        x * y % 97
+    fn product(x: F97, y: F97) -> u32
+        ensures { result ≡ (x.value * y.value) % 97 }
+    {
+        x.value() * y.value() % 97
     }
 
-    fn inverse(x: u32) -> Option<u32> {
+    fn inverse(x: F97) -> Option<u32>
+        ensures { MatchOption result (x.value ≡ 0) (λ y. (¬ (x.value ≡ 0)) × (y ≡ x.value ^ (97 - 2) % 97)) }
+    {
+        let x = x.value();
         if x == 0 {
             None
         } else {

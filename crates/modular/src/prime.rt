@@ -2,6 +2,8 @@
 ghost use Rattle.std.specs.Prelude.{◌≡◌, ℕ, ◌-◌, ◌*◌, ◌%◌, ◌^◌, ◌<◌, ◌≤◌, MatchOption};
 ghost use Rattle.modular.specs.Arithmetic.{Arithmetic};
 
+use crate::residue::Residue;
+
 // Arithmetic modulo P on the numbers below P.
 pub trait Prime<const P: u32> {
     ghost positive: { 0 < P };
@@ -18,15 +20,12 @@ pub trait Prime<const P: u32> {
 
     const TOP: u32;
 
-    fn product(x: u32, y: u32) -> u32
-        requires x_below { x < P }
-        requires y_below { y < P }
-        ensures { result ≡ (x * y) % P };
+    fn product(x: Residue<P>, y: Residue<P>) -> u32
+        ensures { result ≡ (x.entry.value * y.entry.value) % P };
 
     // None for zero, which has no inverse
-    fn inverse(x: u32) -> Option<u32>
-        requires { x < P }
-        ensures { MatchOption result (x ≡ 0) (λ y. (¬ (x ≡ 0)) × (y ≡ x ^ (P - 2) % P)) };
+    fn inverse(x: Residue<P>) -> Option<u32>
+        ensures { MatchOption result (x.entry.value ≡ 0) (λ y. (¬ (x.entry.value ≡ 0)) × (y ≡ x.entry.value ^ (P - 2) % P)) };
 
     // The chosen root of one of the order 2^e, where there is one.
     fn root(e: u32) -> Option<u32>

@@ -54,11 +54,11 @@ where
     }
 
     fn mul(self, other: Self) -> Self {
-        Self::new(<Self as Prime<P>>::product(self.value, other.value))
+        Self::new(<Self as Prime<P>>::product(self, other))
     }
 
     fn inverse(self) -> Option<Self> {
-        Some(Self::new(<Self as Prime<P>>::inverse(self.value)?))
+        Some(Self::new(<Self as Prime<P>>::inverse(self)?))
     }
 
     fn same(self, other: Self) -> bool {
