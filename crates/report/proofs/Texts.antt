@@ -1,6 +1,6 @@
 -- Texts appended one after another.
 use Rattle.std.proofs.Common.{◌≡◌, ℕ, ◌+◌, ◌/◌, ◌%◌, ◌^◌, ◌<◌, ◌≤◌, List, [], ◌∷◌, ◌++◌, length, decimal, sym, ap, ◌∙◌, append_assoc, append-nil, arith, length-append, length-drop}
-use Rattle.std.proofs.lemmas.Fmt.{length-decimal-le}
+use Rattle.std.proofs.lemmas.Fmt.{decimal_step, length-decimal-le}
 use Rattle.writing.specs.declared.writer.Writer.{Writer}
 use Rattle.writing.specs.Written.{rest, Writes}
 use Rattle.writing.proofs.Writers.{appends_none, appends_both}
@@ -26,6 +26,13 @@ append_both {x} {y} {z} {ys} {zs} p q =
       room = omega (arith, append_left p, q.room, length-append ys zs);
       appends = appends_both x y z ys zs p.appends q.appends;
     }
+
+-- the last digit of a number, behind the others
+pub append_last : {x y z : Writer} (v : ℕ) → 10 ≤ v → v < 2 ^ 64 → Appended x (decimal (v / 10)) y → Appended y ((48 + v % 10) ∷ []) z → Appended x (decimal v) z
+append_last v h f p q = append_same (sym (decimal_step v h f)) (append_both p q)
+
+pub decimal_longer : (v : ℕ) → 10 ≤ v → v < 2 ^ 64 → length (decimal v) ≡ length (decimal (v / 10)) + 1
+decimal_longer v h f = ap length (decimal_step v h f) ∙ length-append (decimal (v / 10)) ((48 + v % 10) ∷ [])
 
 -- ── Lines ──
 

@@ -57,7 +57,8 @@ fn doublings_of(header: Header) -> Doublings
     }
 }
 
-// The text of a circuit over 97.
+// The text of a circuit over 97. Not inlined, so that its large tables take no stack over the other prime, or where nothing is opened.
+#[inline(never)]
 fn tell_over_97(reader: RowReader<'_>, witness: &[u8], out: &mut Writer<'_>) -> Result<(), Refused>
     requires { text_room ≤ length (rest out.old) }
     ensures { TellsBy 97 reader.entry witness.now out.old result out.new }

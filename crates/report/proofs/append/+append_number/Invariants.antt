@@ -1,0 +1,4 @@
+use Rattle.report.proofs.append.+append_number.Given as goal
+
+abbrev pub decreases-append_number : goal.decreases-append_number
+decreases-append_number l = l.v
