@@ -1,6 +1,6 @@
 // The same call over other fields: the field of 97 elements doubled, with θ among entries and values, and the field of 12289 elements.
 use crate::print::{show, tell};
-use crate::tables::{enters, survey_over};
+use crate::tables::{ShownField, enters, survey_over};
 use field::field::Field;
 use field::file_field::FileField;
 use modular::f97::F97;
@@ -27,24 +27,21 @@ fn one_row<F: FileField>(a: F, x: F, c: F) -> [Call<F>; 4] {
 }
 
 // A sheet of one row and two wires, of which so many are public.
-fn survey_row<F: FileField>(rt: &HostRuntime, publics: u32, calls: &[Call<F>]) -> io::Result<()> {
+fn survey_row<F: ShownField>(rt: &impl Print, publics: u32, calls: &[Call<F>]) -> io::Result<()> {
     let counts = Counts {
         wires: 2,
         publics,
         rows: 1,
     };
-    match survey_over(rt, counts, calls)? {
-        Ok(s) => {
-            tell(rt, "quotient", s.quotient)?;
-            show(rt, "extended values", &s.extended)?;
-            show(rt, "quotient", &s.divided)?;
-            show(rt, "public", &s.published)
-        }
-        Err(e) => tell(rt, "survey", Err(e)),
-    }
+    survey_over(rt, counts, calls, |s| {
+        tell(rt, "quotient", s.quotient)?;
+        show(rt, "extended values", s.extended)?;
+        show(rt, "quotient", s.divided)?;
+        show(rt, "public", s.published)
+    })
 }
 
-pub(crate) fn other_fields(rt: &HostRuntime) -> io::Result<()> {
+pub(crate) fn other_fields(rt: &impl Print) -> io::Result<()> {
     // θ x² = 56 + 29θ has the solution x = 1 + θ, since θ² = 28. Here x is public, so θ stands in the public polynomial too.
     println!(rt; "survey over the field of 97 elements doubled")?;
     let theta = Quadratic::<F97>::top();

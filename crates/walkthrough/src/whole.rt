@@ -78,7 +78,7 @@ fn multiply_out(rt: &impl Print, extended: &[F97], h: &[F97]) -> io::Result<()> 
     println!(rt; "the two polynomials are {same}")
 }
 
-fn survey_with(rt: &HostRuntime, x: F97) -> io::Result<()> {
+fn survey_with(rt: &impl Print, x: F97) -> io::Result<()> {
     let number = x.value();
     println!(rt; "survey six calls as one list, with x = {number}")?;
     let counts = Counts {
@@ -86,25 +86,22 @@ fn survey_with(rt: &HostRuntime, x: F97) -> io::Result<()> {
         publics: 1,
         rows: 1,
     };
-    match survey_over(rt, counts, &listed(x))? {
-        Ok(s) => {
-            for answer in &s.answers {
-                tell(rt, "listed call", *answer)?;
-            }
-            show(rt, "extended values", &s.extended)?;
-            tell(rt, "quotient", s.quotient)?;
-            show(rt, "public", &s.published)?;
-            if s.quotient.is_ok() {
-                show(rt, "quotient", &s.divided)?;
-                multiply_out(rt, &s.extended, &s.divided)?;
-            }
-            Ok(())
+    survey_over(rt, counts, &listed(x), |s| {
+        for answer in s.answers {
+            tell(rt, "listed call", *answer)?;
         }
-        Err(e) => tell(rt, "survey", Err(e)),
-    }
+        show(rt, "extended values", s.extended)?;
+        tell(rt, "quotient", s.quotient)?;
+        show(rt, "public", s.published)?;
+        if s.quotient.is_ok() {
+            show(rt, "quotient", s.divided)?;
+            multiply_out(rt, s.extended, s.divided)?;
+        }
+        Ok(())
+    })
 }
 
-pub(crate) fn both_witnesses(rt: &HostRuntime) -> io::Result<()> {
+pub(crate) fn both_witnesses(rt: &impl Print) -> io::Result<()> {
     survey_with(rt, F97::new(96))?;
     survey_with(rt, F97::new(5))
 }
