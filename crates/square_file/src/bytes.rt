@@ -17,10 +17,15 @@ impl<F: FileField> Program<'_, F> {
     fn put_list(&self, w: &mut Writer<'_>, side: &Combination<F>)
         ensures { Fills w.old (list_bytes (items F.ops F.prime (side_terms F.ops self.now side.now))) w.new }
     {
-        w.put_word(side.terms(self.head, self.used).count() as u32);
+        let count_at = w.written().len();
+        // room for the count, which is known once the items are written
+        w.put_word(0);
+        let mut count = 0;
         for t in side.terms(self.head, self.used) {
             w.put_item(t.wire as u32, number_of(t.coefficient));
+            count += 1;
         }
+        w.put_word_at(count_at, count);
     }
 
     fn put_row(&self, w: &mut Writer<'_>, r: usize)
@@ -28,8 +33,9 @@ impl<F: FileField> Program<'_, F> {
     {
         let left = Combination::left(self.head, r);
         let right = Combination::right(self.head, r);
+        let left_at = w.written().len();
         self.put_list(w, &left);
-        self.put_list(w, &left); // a square is a product of equal factors
+        w.put_again(left_at); // a square is a product of equal factors
         self.put_list(w, &right);
     }
 

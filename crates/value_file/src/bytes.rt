@@ -8,7 +8,7 @@ use field::field::Field;
 use field::file_field::FileField;
 use frames::format::ASSIGNMENTS;
 use frames::section::{BODY, HEADER};
-use writing::plain::{number_of, plain_number};
+use writing::plain::plain_number;
 use writing::writer::Writer;
 
 // Where the values begin.
@@ -34,9 +34,7 @@ fn put_header(w: &mut Writer<'_>, prime: u64, count: u32)
 fn put_numbers<F: FileField>(w: &mut Writer<'_>, values: &[F])
     ensures { Fills w.old (value_bytes (numbers F.ops F.prime values.now)) w.new }
 {
-    for x in values {
-        w.put_long(number_of(*x));
-    }
+    w.put_numbers(values);
 }
 
 // The whole file; p is the field's prime, which the caller has at hand, since what `prime` promises of it makes the file readable.

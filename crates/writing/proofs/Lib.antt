@@ -1,4 +1,5 @@
 pub mod Littles
 pub mod Writers
 pub mod Numbered
+pub mod NumberBytes
 pub mod Files

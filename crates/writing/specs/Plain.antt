@@ -1,8 +1,9 @@
 -- The number of an element: which multiple of one it is. An element outside the prime field has none.
-use Rattle.std.specs.Prelude.{ℕ, zero, suc, Bool, is_some, None, Option}
+use Rattle.std.specs.Prelude.{ℕ, zero, suc, Bool, is_some, None, Option, List, [], ◌∷◌, ◌++◌}
 use Rattle.std.specs.Option.{unwrap_or, option_or}
 use Rattle.std.specs.Bool.{then_some}
 use Rattle.field.specs.Operations.{Operations, decided, ones}
+use Rattle.frames.specs.Little.{little}
 
 module _ {F : Type 0} (O : Operations F) where
   -- the least v below p of which the element is the v-fold sum of one
@@ -16,3 +17,8 @@ module _ {F : Type 0} (O : Operations F) where
 
   unfoldable pub is_plain : ℕ → F → Bool
   is_plain p x = is_some (plain p x)
+
+  -- the numbers of elements, 8 bytes each
+  unfoldable pub number_bytes : ℕ → List F → List ℕ
+  number_bytes p [] = []
+  number_bytes p (x ∷ xs) = little 8 (numbered p x) ++ number_bytes p xs

@@ -1,10 +1,13 @@
 // Bytes and little-endian numbers, each appended to what is written. Where one does not fit, nothing is changed.
-ghost use Rattle.std.specs.Prelude.{◌≡◌, [], ◌++◌, length};
+ghost use Rattle.std.specs.Prelude.{◌≡◌, [], ◌++◌, length, drop};
 ghost use Rattle.frames.specs.Little.{little};
-ghost use Rattle.writing.specs.Written.{written, rest, Writes};
+ghost use Rattle.writing.specs.Written.{written, rest, Overwrites, Writes};
+ghost use Rattle.writing.specs.Plain.{number_bytes};
 
-use crate::put::put;
+use crate::put::{put_inside, put_numbers};
 use crate::writer::Writer;
+use field::field::Field;
+use field::file_field::FileField;
 use frames::format::Format;
 
 impl<'a> Writer<'a> {
@@ -31,11 +34,13 @@ impl<'a> Writer<'a> {
         self.buffer.len() - self.len
     }
 
+    // Inlined, as the step below it is, so that a few bytes are stored and not copied by a call.
+    #[inline(always)]
     pub fn put(&mut self, bytes: &[u8])
         ensures { Writes self.old bytes.now self.new }
     {
         if bytes.len() <= self.room() {
-            put(self.buffer, self.len, bytes);
+            put_inside(self.buffer, self.len, bytes);
             self.len += bytes.len();
         }
     }
@@ -59,8 +64,9 @@ impl<'a> Writer<'a> {
         ensures { Writes self.old (little 4 word ++ little 8 long) self.new }
     {
         if self.room() >= 12 {
-            self.put_word(word);
-            self.put_long(long);
+            put_inside(self.buffer, self.len, &word.to_le_bytes());
+            put_inside(self.buffer, self.len + 4, &long.to_le_bytes());
+            self.len += 12;
         }
     }
 
@@ -69,6 +75,16 @@ impl<'a> Writer<'a> {
         ensures { Writes self.old (little 4 wire ++ little 8 coefficient) self.new }
     {
         self.put_pair(wire, coefficient);
+    }
+
+    // The numbers of elements, 8 bytes each, where there is room for them all.
+    pub fn put_numbers<F: FileField>(&mut self, values: &[F])
+        ensures { Writes self.old (number_bytes F.ops F.prime values.now) self.new }
+    {
+        if values.len() <= self.room() / 8 {
+            put_numbers(self.buffer, self.len, values);
+            self.len += 8 * values.len();
+        }
     }
 
     // The start of a file: which format, and how many sections there are.
@@ -87,5 +103,24 @@ impl<'a> Writer<'a> {
         ensures { Writes self.old (little 4 kind ++ little 8 size) self.new }
     {
         self.put_pair(kind, size as u64);
+    }
+
+    // What is written from a place on, once more.
+    pub fn put_again(&mut self, from: usize)
+        ensures { Writes self.old (drop from (written self.old)) self.new }
+    {
+        if from <= self.len && self.len - from <= self.room() {
+            self.buffer.copy_within(from..self.len, self.len);
+            self.len += self.len - from;
+        }
+    }
+
+    // A 4-byte number over what is written, from a place on.
+    pub fn put_word_at(&mut self, at: usize, word: u32)
+        ensures { Overwrites self.old at (little 4 word) self.new }
+    {
+        if at <= self.len && self.len - at >= 4 {
+            put_inside(self.buffer, at, &word.to_le_bytes());
+        }
     }
 }

@@ -7,11 +7,11 @@ returns-then-bytes-room c =
     let w = c.args.self.now in
     let d = length-drop w.len w.buffer.now in
     let fits : w.len + length c.args.bytes.now ≤ length w.buffer.now = omega (arith, c.args.self.now.inside) in
-    let p = c.put.ensures.0 fits in (
+    let p = c.put_inside.ensures in (
       λ _. record {
         buffer = refl;
-        text = put_written w.buffer.now c.put.new.out c.args.bytes.now w.len fits p;
-        behind = put_behind w.buffer.now c.put.new.out c.args.bytes.now w.len fits p;
+        text = put_written w.buffer.now c.put_inside.new.out c.args.bytes.now w.len fits p;
+        behind = put_behind w.buffer.now c.put_inside.new.out c.args.bytes.now w.len fits p;
       },
       λ h. absurd (omega arith),
     )
