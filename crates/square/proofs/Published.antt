@@ -112,22 +112,25 @@ module _ {F : Type 0} {O : Operations F} (L : Laws O) where
           (size_inverse L (log_k S)) (half_power (log_of_n S)) (size_inverse L (log_of_n S))
           ∙ ap (λ t. scale ⊗ t) (sym (value_of_sums e))
 
-    -- the sums' values at the powers of the step, and then again and again
-    pub public_is : (c : (matrix row wire : ℕ) → F) (v first rest : List F)
-        → first ≡ table (k S) (λ e. scale ⊗ value_at O (table (k S) (λ t. u_row O S c (coefficient O v) (t * stride S))) (step ^^ e))
-        → rest ≡ table (n S - k S) (λ e. coefficient O first (e % length first))
-        → PublicOf O S c v (first ++ rest)
-    public_is c v first rest first-is rest-is =
+    pub public_is : (c : (matrix row wire : ℕ) → F) (v q : List F) → length q ≡ n S
+        → ((e : ℕ) → e < n S → coefficient O q e ≡ scale ⊗ value_at O (table (k S) (λ t. u_row O S c (coefficient O v) (t * stride S))) (step ^^ (e % k S)))
+        → PublicOf O S c v q
+    public_is c v q size written =
+        let y : ℕ → F = λ t. u_row O S c (coefficient O v) (t * stride S) in
         record {
           p = p y;
           p_takes = interp_takes L (log_k S) point step (inverse (ones O (k S))) point_root step_inverse (size_inverse L (log_k S)) y;
-          is = is_table 𝟘 (first ++ rest) (n S) _ size
-              (λ e h. repeated (k S) (n S) _ first rest (pow_pos (log_k S)) first-is rest-is e h ∙ sym (scaled y (e % k S) (mod-lt e (pow_pos (log_k S)))));
+          is = is_table 𝟘 q (n S) _ size (λ e h. written e h ∙ sym (scaled y (e % k S) (mod-lt e (pow_pos (log_k S)))));
         }
-      where
-        y : ℕ → F
-        y t = u_row O S c (coefficient O v) (t * stride S)
 
+    -- the sums' values at the powers of the step, and then again and again
+    pub public_repeated : (c : (matrix row wire : ℕ) → F) (v first rest : List F)
+        → first ≡ table (k S) (λ e. scale ⊗ value_at O (table (k S) (λ t. u_row O S c (coefficient O v) (t * stride S))) (step ^^ e))
+        → rest ≡ table (n S - k S) (λ e. coefficient O first (e % length first))
+        → PublicOf O S c v (first ++ rest)
+    public_repeated c v first rest first-is rest-is =
+        public_is c v (first ++ rest) size (repeated (k S) (n S) _ first rest (pow_pos (log_k S)) first-is rest-is)
+      where
         size : length (first ++ rest) ≡ n S
         size =
             length-append first rest

@@ -33,8 +33,11 @@ fn repeat_first<F: Field>(first: &[F], rest: &mut [F])
     requires { 0 < length first.now }
     ensures { rest.new ≡ table (length rest.old) (λ e. coefficient F.ops first.now (e % length first.now)) }
 {
-    for (e, place) in rest.iter_mut().enumerate() {
-        *place = first[e % first.len()];
+    // counted round, since a division for each place costs more than all else here
+    let mut at = 0;
+    for place in rest.iter_mut() {
+        *place = first[at];
+        at = if at + 1 < first.len() { at + 1 } else { 0 };
     }
 }
 

@@ -1,4 +1,5 @@
 pub mod Weighted
 pub mod Places
 pub mod Sides
+pub mod Records
 pub mod TermLists

@@ -7,7 +7,7 @@ use Rattle.sheet.specs.Outcomes.{shape_of}
 use Rattle.square.specs.Rows.{position}
 use Rattle.square.specs.Polynomials.{ω}
 use Rattle.square.proofs.Heads.{k_same, log_of_n_same, n_same, head_fits}
-use Rattle.square.proofs.Published.{step, scale, public_is}
+use Rattle.square.proofs.Published.{step, scale, public_repeated}
 use Rattle.square.proofs.consistent.ConsistentSheet.write_public.Goals as goal
 
 pub returns : goal.returns
@@ -25,5 +25,5 @@ returns g c =
     let scale-is : c.power_of-scale.result ≡ scale L S (head_fits h) root = cc in
     let front : length c.split_at_mut-first.result.0.now ≡ k S = omega arith in
     let back : length c.split_at_mut-first.result.1.now ≡ n S - k S = omega arith in
-    public_is L S (head_fits h) root (position O []) s.values.now c.write_first.new.out c.repeat_first.new.rest
+    public_repeated L S (head_fits h) root (position O []) s.values.now c.write_first.new.out c.repeat_first.new.rest
     (rw (front, scale-is, step_is) at c.write_first.ensures) (rw back at c.repeat_first.ensures)

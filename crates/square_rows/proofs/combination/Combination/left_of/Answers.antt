@@ -1,4 +1,4 @@
-use Rattle.square_rows.proofs.Sides.{left_plus, left_minus, left_difference, left_sum, left_empty}
+use Rattle.square_rows.proofs.Records.{left_plus, left_minus, left_difference, left_sum, left_empty}
 use Rattle.square_rows.proofs.combination.Combination.left_of.Goals as goal
 
 pub returns-in-PublicPlus : goal.returns-in-PublicPlus

@@ -1,5 +1,5 @@
 use Rattle.sheet.specs.Outcomes.{shape_of}
-use Rattle.square_rows.proofs.Sides.{right_plus, right_minus, right_square, right_product, right_empty}
+use Rattle.square_rows.proofs.Records.{right_plus, right_minus, right_square, right_product, right_empty}
 use Rattle.square_rows.proofs.combination.Combination.right_of.Goals as goal
 
 pub returns-in-PublicPlus : goal.returns-in-PublicPlus
