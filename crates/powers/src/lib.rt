@@ -1,7 +1,7 @@
 // Powers of 11 modulo 12289 and their logarithms, by tables. 11 generates every element other than zero.
 #![tactic(auto)]
 
-ghost use Rattle.std.specs.Prelude.{◌≡◌, ◌++◌, ◌%◌, ◌^◌, ◌<◌, ◌≤◌, ◌⊎◌, MatchOption, slice_index};
+ghost use Rattle.std.specs.Prelude.{◌≡◌, ◌++◌, ◌+◌, ◌%◌, ◌^◌, ◌<◌, ◌≤◌, ◌⊎◌, MatchOption, slice_index};
 ghost use Rattle.powers.specs.Logarithm.{Logarithm};
 
 use crate::tables::{LOGS_HIGH, LOGS_LOW, POWERS_HIGH, POWERS_LOW};
@@ -27,6 +27,14 @@ pub fn power(i: u32) -> u32
     entry(&POWERS_LOW, &POWERS_HIGH, (i % 12288) as usize)
 }
 
+// The logarithm of i + 1. A function of its own, so that what is proved of the tables holds at whatever place `log` asks for.
+fn logarithm_after(i: usize) -> u32
+    requires { i < 12288 }
+    ensures { Logarithm (i + 1) result }
+{
+    entry(&LOGS_LOW, &LOGS_HIGH, i)
+}
+
 // The one exponent below 12288 whose power is v; None where there is none: for zero, and for numbers that are not reduced.
 pub fn log(v: u32) -> Option<u32>
     ensures { MatchOption result ((v ≡ 0) ⊎ (12289 ≤ v)) (λ x. Logarithm v x) }
@@ -34,6 +42,6 @@ pub fn log(v: u32) -> Option<u32>
     if v == 0 || v > 12288 {
         None
     } else {
-        Some(entry(&LOGS_LOW, &LOGS_HIGH, v as usize - 1))
+        Some(logarithm_after(v as usize - 1))
     }
 }
