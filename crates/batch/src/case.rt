@@ -1,4 +1,6 @@
 // The bytes of a case, of which numbers, elements and lists are taken off the front.
+ghost use Rattle.std.specs.Prelude.{◌≡◌, IfOk, vec_len};
+
 use field::field::Field;
 use field::file_field::FileField;
 use frames::number::{long, word};
@@ -113,6 +115,7 @@ impl<'a> Case<'a> {
         read: R,
     ) -> io::Result<Vec<T>>
         requires { R.IsAlwaysCallable read }
+        ensures { IfOk result (λ v. vec_len v ≡ count) }
     {
         let mut all = Vec::new(heap);
         for _ in 0..count {
