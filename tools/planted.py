@@ -13,9 +13,6 @@ where that function is only a step of it, of the one that calls it. `tools/plant
 
 def enclosing(source, at):
     """The function that a place of the source stands in, and the definitions that its clauses cite."""
-    constant = re.match(r"\s*(?:const|ghost) (\w+)", source[at:])
-    if constant:
-        return constant.group(1), ""
     starts = [m for m in re.finditer(r"^\s*(?:pub(?:\([a-z]+\))? )?(?:extern \"C\" )?fn (\w+)", source, re.M) if m.start() <= at]
     if not starts:
         return "a table", ""
@@ -30,6 +27,32 @@ def enclosing(source, at):
     return last.group(1), ", ".join(cited[:2])
 
 
+def pairs_of(text):
+    """What is turned in which file, and into what: the last file named holds for the pairs behind it."""
+    pairs, file = [], None
+    for line in text.splitlines():
+        key, _, value = line.partition(":")
+        if key == "file":
+            file = value.strip()
+        elif key == "old":
+            old = value[1:]
+        elif key == "new":
+            pairs.append((file, old, value[1:]))
+    return pairs
+
+
+def place_of(crate, pair):
+    """What the pair stands in, and what refuses it. A constant has no contract of its own."""
+    file, old, _ = pair
+    source = (crate / file).read_text()
+    at = source.index(old)
+    constant = re.match(r"\s*(?:const|ghost) (\w+)", source[at:])
+    if constant:
+        return constant.group(1), "the proof that the constant is the ghost of its name, or a contract of what uses it"
+    function, cited = enclosing(source, at)
+    return function, f"contract of `{function}`" + (f" (`{cited}`)" if cited else "")
+
+
 def main():
     lines = [HEAD]
     total = 0
@@ -37,12 +60,11 @@ def main():
         lines.append(f"\n## {crate.name}\n")
         lines.append("| bug | in | turned | into | refused by |\n|---|---|---|---|---|")
         for edit in sorted((crate / "must-fail").glob("*.edit")):
-            parts = dict(line.split(": ", 1) if ": " in line else (line.rstrip(":"), "") for line in edit.read_text().splitlines() if line)
-            source = (crate / parts["file"]).read_text()
-            function, cited = enclosing(source, source.index(parts["old"].rstrip("\n")))
-            cell = lambda text: "`" + text.strip().replace("|", "\\|") + "`" if text.strip() else "nothing"
-            refused = f"contract of `{function}`" + (f" (`{cited}`)" if cited else "")
-            lines.append(f"| {edit.stem.replace('_', ' ')} | `{function}` | {cell(parts['old'])} | {cell(parts.get('new', ''))} | {refused} |")
+            pairs = pairs_of(edit.read_text())
+            function, refused = place_of(crate, pairs[-1])
+            cell = lambda texts: " and ".join("`" + text.strip().replace("|", "\\|") + "`" if text.strip() else "nothing" for text in texts)
+            turned, into = cell(old for _, old, _ in pairs), cell(new for _, _, new in pairs)
+            lines.append(f"| {edit.stem.replace('_', ' ')} | `{function}` | {turned} | {into} | {refused} |")
             total += 1
     lines.insert(1, f"\nThere are {total}.\n")
     (ROOT / "docs" / "PLANTED.md").write_text("\n".join(lines) + "\n")
